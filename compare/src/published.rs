@@ -1,0 +1,153 @@
+//! The published Rust, compiled where it lies; nothing of it is copied here.
+//!
+//! `build.rs` writes one `mod` line for each of the eight files. The modules around those lines stand where the
+//! Rust's own paths (`crate::mesh`, `crate::physics`) look for them, and pass on the names that the eight files
+//! take from modules not published to us.
+
+use crate::document01::{Answer, Query};
+use mesh::quad2d::{
+    Quad4ReferenceElement, Quad9ReferenceElement, QuadMeshQueryResult, QuadMeshView2d, QuadReferenceElement,
+    query_quad_mesh,
+};
+
+macro_rules! published {
+    ($name:literal) => {
+        include!(concat!(env!("OUT_DIR"), "/", $name, ".rs"));
+    };
+}
+
+/// The Rust is a library, and only a part of it is compared; `math` passes on names of its missing file.
+#[allow(dead_code, unused_imports, clippy::needless_range_loop)]
+mod eight_files {
+    published!("math");
+
+    pub mod mesh {
+        pub use super::math::Scalar;
+        pub(crate) use super::math::cast;
+
+        published!("quad2d");
+
+        pub mod elements {
+            pub mod quad2d {
+                published!("mapping");
+                published!("quad4");
+                published!("quad9");
+            }
+        }
+    }
+
+    pub mod physics {
+        pub mod solenoid_stress {
+            published!("types");
+            published!("axisym");
+            published!("convenience");
+
+            pub use axisym::build_b_matrix;
+            pub use convenience::rotate_material_in_plane;
+            pub(crate) use types::validate_element_material_inputs;
+            pub use types::{DOF_PER_NODE, Structural2dFormulation};
+        }
+    }
+}
+
+pub use eight_files::{mesh, physics};
+
+/// What the Rust answers to a query that document 01 accepts.
+///
+/// The Rust warns of repeated nodes on standard error; document 01 has a count in its place.
+pub fn nearest(query: &Query) -> Vec<Answer> {
+    match query.family {
+        4 => nearest_in::<Quad4ReferenceElement, 4>(query),
+        9 => nearest_in::<Quad9ReferenceElement, 9>(query),
+        family => panic!("document 01 refuses family {family}"),
+    }
+}
+
+fn nearest_in<E: QuadReferenceElement<F>, const F: usize>(query: &Query) -> Vec<Answer> {
+    let elements: Vec<[usize; F]> = query.elements.iter().map(|row| numbers(row)).collect();
+    let mesh = QuadMeshView2d { nodes_rz: &query.nodes, elements: &elements };
+    let result = query_quad_mesh::<E, f64, F>(mesh, &query.points, query.limit.into())
+        .expect("the Rust accepts what document 01 accepts");
+    (0..query.points.len()).map(|point| answer_of(&result, point)).collect()
+}
+
+fn numbers<const F: usize>(row: &[u32]) -> [usize; F] {
+    std::array::from_fn(|local| row[local] as usize)
+}
+
+fn answer_of(result: &QuadMeshQueryResult<f64>, point: usize) -> Answer {
+    Answer {
+        node: result.nearest_node_indices[point],
+        node_distance: result.nearest_node_distances[point],
+        element: result.nearest_element_indices[point],
+        reference: result.nearest_element_reference_points[point],
+        element_distance: result.nearest_element_distances[point],
+        face_element: result.nearest_face_element_indices[point],
+        face: result.nearest_face_local_faces[point],
+        s: result.nearest_face_reference_coordinates[point],
+        face_distance: result.nearest_face_distances[point],
+    }
+}
+
+#[cfg(test)]
+mod tests {
+    use super::mesh::{Scalar, cast};
+
+    fn epsilon<F: Scalar>() -> F {
+        F::epsilon()
+    }
+
+    fn max<F: Scalar>(a: F, b: F) -> F {
+        a.max(b)
+    }
+
+    fn min<F: Scalar>(a: F, b: F) -> F {
+        a.min(b)
+    }
+
+    fn root<F: Scalar>(x: F) -> F {
+        x.sqrt()
+    }
+
+    #[test]
+    fn epsilon_is_two_to_minus_52() {
+        assert_eq!(epsilon::<f64>().to_bits(), (1023 - 52) << 52);
+    }
+
+    #[test]
+    fn cast_is_the_identity_on_the_literals_used() {
+        for literal in [0.25, 0.5, 2.0, 64.0] {
+            assert_eq!(cast::<f64>(literal).to_bits(), literal.to_bits());
+        }
+    }
+
+    #[test]
+    fn max_and_min_return_the_other_operand_of_a_nan() {
+        for number in [-1.0, 0.0, 1.0, f64::INFINITY, f64::NEG_INFINITY] {
+            for choose in [max::<f64>, min::<f64>] {
+                assert_eq!(choose(f64::NAN, number), number);
+                assert_eq!(choose(number, f64::NAN), number);
+            }
+        }
+        assert!(max(f64::NAN, f64::NAN).is_nan() && min(f64::NAN, f64::NAN).is_nan());
+    }
+
+    /// A root r of a whole number m is the nearest when 2r - 1 and 2r + 1 square to less and to more than 4m.
+    #[test]
+    fn roots_are_the_nearest_ones_by_integer_squares() {
+        let mut significand: u64 = 1 << 52;
+        while significand < 1 << 53 {
+            for shift in [52, 53] {
+                let square = u128::from(significand) << shift;
+                let nearest = root(square as f64) as u128;
+                let [less, more] = [2 * nearest - 1, 2 * nearest + 1].map(|end| end * end);
+                assert!(less < 4 * square && 4 * square < more);
+            }
+            significand += 0x0000_0123_4567_89ab;
+        }
+        assert_eq!(root(f64::from_bits(1)).to_bits(), (1023 - 537) << 52);
+        assert_eq!(root(-0.0f64).to_bits(), (-0.0f64).to_bits());
+        assert!(root(-1.0f64).is_nan() && root(f64::NAN).is_nan());
+        assert_eq!(root(f64::INFINITY), f64::INFINITY);
+    }
+}

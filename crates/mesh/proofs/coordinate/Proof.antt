@@ -1,0 +1,23 @@
+-- `coordinate` meets its contract: past the list's end the definition reads `nan`, and 0 / 0 is `nan`. Assumes nothing.
+use mathlib.Core.Path.{sym}
+use borrow.Author.Needs.{needs}
+use lib.ListN.{List·getD-eq-default}
+use lib.Ieee.{nan, ofBits, div}
+use Rattle.mesh.proofs.coordinate.Statement.{statement}
+use Rattle.mesh.proofs.coordinate.Tie as tie
+
+mul-result : tie.Need-mul-result
+mul-result c = search needs
+
+shared-slice-read-result : tie.Need-shared-slice-read-result
+shared-slice-read-result c = search needs
+
+returns : tie.Need-returns
+returns c = search needs
+
+returns-2 : tie.Need-returns-2
+unfolding ofBits div
+returns-2 c = sym (List·getD-eq-default (c .before .args .nodes-rz .now) nan (c .if1 .left))
+
+pub coordinate-spec : {M : Type 1} → statement M
+coordinate-spec = tie.close (tie.spec mul-result shared-slice-read-result returns returns-2)

@@ -1,0 +1,3 @@
+pub mod Seeds
+pub mod Steps
+pub mod Tried

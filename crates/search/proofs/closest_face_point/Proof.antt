@@ -1,0 +1,11 @@
+use borrow.Author.Needs.{needs}
+use Rattle.definition.specs.Search.{closestFacePoint}
+use Rattle.search.proofs.closest_face_point.Statement.{statement}
+use Rattle.search.proofs.closest_face_point.Tie as tie
+
+returns : tie.Need-returns
+unfolding closestFacePoint
+returns c = rw (c .root .ensures, c .before .before .face-best .ensures)
+
+pub closest-face-point-spec : {M : Type 1} → statement M
+closest-face-point-spec = tie.close (tie.spec (λ c κs. search needs) (λ c κs. search needs) returns)

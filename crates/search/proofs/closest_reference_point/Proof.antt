@@ -1,0 +1,11 @@
+use borrow.Author.Needs.{needs}
+use Rattle.definition.specs.Search.{closestReferencePoint}
+use Rattle.search.proofs.closest_reference_point.Statement.{statement}
+use Rattle.search.proofs.closest_reference_point.Tie as tie
+
+returns : tie.Need-returns
+unfolding closestReferencePoint
+returns c = rw (c .root .ensures, c .before .before .before .element-best .ensures)
+
+pub closest-reference-point-spec : {M : Type 1} → statement M
+closest-reference-point-spec = tie.close (tie.spec (λ c κs. search needs) (λ c κs. search needs) returns)

@@ -1,0 +1,11 @@
+use borrow.Author.Needs.{needs}
+use Rattle.definition.specs.Search.{nextS}
+use Rattle.search.proofs.next_s.Statement.{statement}
+use Rattle.search.proofs.next_s.Tie as tie
+
+returns : tie.Need-returns
+unfolding nextS
+returns c = rw (c .clamp .ensures, c .before .before .before .pre)
+
+pub next-s-spec : {M : Type 1} → statement M
+next-s-spec = tie.close (tie.spec (λ c κs. search needs) returns)
