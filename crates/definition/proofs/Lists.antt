@@ -1,5 +1,5 @@
 -- What joined lists, lists written over and a test of every number come to at one place: by induction on the count, and by the library's laws of appended lists. Assumes nothing.
-use mathlib.Core.Path.{_≡_, refl, ap, ap₂, _∙_}
+use mathlib.Core.Path.{_≡_, refl, sym, ap, ap₂, _∙_}
 use mathlib.Core.Logic.{inl, inr}
 use mathlib.Core.Bool.{Bool, true, false, _&&_}
 use mathlib.Core.List.{List, [], _∷_, _++_, map, map-append, append-assoc}
@@ -118,3 +118,15 @@ pub every-same : {p q : ℕ → Bool} {n : ℕ} → ((i : ℕ) → i < n → p i
 unfolding every
 every-same {n = zero} e = refl
 every-same {n = suc n} e = ap₂ _&&_ (every-same (λ i l. e i (le-step l))) (e n (le-refl (suc n)))
+
+-- one number more that passes, and one that does not
+pub every-next : (p : ℕ → Bool) (n : ℕ) → every p n ≡ true → p n ≡ true → every p (n + 1) ≡ true
+unfolding every
+every-next p n h e = ap (every p) (add-one n) ∙ ap₂ _&&_ h e
+
+pub every-fails : (p : ℕ → Bool) (n : ℕ) {i : ℕ} → i < n → p i ≡ false → every p n ≡ false
+every-fails p n {i} l e = by (every p n) refl
+  where
+    by : (b : Bool) → every p n ≡ b → b ≡ false
+    by true h = sym (every-at p h l) ∙ e
+    by false h = refl

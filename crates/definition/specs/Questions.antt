@@ -36,6 +36,11 @@ unfoldable pub asked : {A : Type 0} → List Question → A → Outcome A
 asked [] v = accepted v
 asked (q ∷ qs) v = cond (q .holds) (asked qs v) (refused (q .number) (q .place))
 
+-- an outcome, and what comes after an acceptance: the first no is the answer
+abbrev pub onward : {A B : Type 0} → Outcome A → Outcome B → Outcome B
+onward (accepted v) o = o
+onward (refused number place) o = refused number place
+
 -- the enum of a part of a call's questions, in document 01's words
 abbrev pub verdictOutcome : Verdict → Outcome (Unit {0})
 verdictOutcome Passed = accepted tt

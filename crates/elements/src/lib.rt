@@ -10,6 +10,14 @@ mod quad9;
 ghost use mathlib.Core.Path.{_≡_};
 ghost use Prim.Native.Nat.{_≤_};
 ghost use Rattle.definition.specs.Elements.{nodesOf, shapeOf, gradRefOf, faceReferenceOf};
+ghost use Rattle.definition.specs.Questions.{isFamily};
+
+// Whether the family is 4 or 9.
+pub fn is_family(family: usize) -> bool
+    ensures { λ r. ⌜ r ≡ isFamily family ⌝ }
+{
+    if family == 4 { true } else { family == 9 }
+}
 
 // The nodes of an element, 4 or 9. The bounds say to a loop over the nodes that their places are there.
 pub fn nodes_per_element(family: usize) -> usize

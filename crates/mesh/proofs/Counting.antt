@@ -6,7 +6,7 @@ use native.Mathlib.Nat.{add-zero}
 use native.Mathlib.Numerals.{add-one}
 use Rattle.definition.specs.Lists.{countOf}
 
-count-next : (p : ℕ → Bool) (n : ℕ) → countOf p (n + 1) ≡ countOf p n + cond (p n) 1 0
+pub count-next : (p : ℕ → Bool) (n : ℕ) → countOf p (n + 1) ≡ countOf p n + cond (p n) 1 0
 unfolding countOf
 count-next p n = ap (countOf p) (add-one n)
 

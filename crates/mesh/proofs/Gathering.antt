@@ -9,16 +9,17 @@ use Rattle.definition.specs.Lists.{each, over}
 use Rattle.definition.specs.Binary64.{plus0}
 use Rattle.definition.specs.Elements.{nodesOf}
 use Rattle.definition.specs.Mapping.{first, second}
-use Rattle.definition.specs.Mesh.{Mesh, elementNodes, gathered}
+use Rattle.definition.specs.Mesh.{Mesh, pairAt, elementNodes, gathered}
+use Rattle.definition.specs.declared.Point.{Point}
 use Rattle.definition.proofs.Lists.{over-pair}
 
 -- the coordinates that row gives at local place j
 abbrev pub pairOf : List Float → List ℕ → ℕ → List Float
 pairOf nodes row j = first nodes (getD row j 0) ∷ second nodes (getD row j 0) ∷ []
 
-pub gather-next : (nodes : List Float) (row : List ℕ) (j : ℕ) {node : ℕ} {x y : Float} {xy : List Float} → j < 9 → xy ≡ over (each (pairOf nodes row) j) (replicate 18 plus0) → node ≡ getD row j 0 → x ≡ first nodes node → y ≡ second nodes node →
-    set (set xy (2 * j) x) (2 * j + 1) y ≡ over (each (pairOf nodes row) (j + 1)) (replicate 18 plus0)
-gather-next nodes row j l h n p q = rw (h, p, q, n) (sym (over-pair (λ i. first nodes (getD row i 0)) (λ i. second nodes (getD row i 0)) j (replicate 18 plus0) (omega arith)))
+pub gather-next : (nodes : List Float) (row : List ℕ) (j : ℕ) {node : ℕ} {p : Point} {xy : List Float} → j < 9 → xy ≡ over (each (pairOf nodes row) j) (replicate 18 plus0) → node ≡ getD row j 0 → p ≡ pairAt nodes node →
+    set (set xy (2 * j) (p .x)) (2 * j + 1) (p .y) ≡ over (each (pairOf nodes row) (j + 1)) (replicate 18 plus0)
+gather-next nodes row j l h n q = rw (h, q, n) (sym (over-pair (λ i. first nodes (getD row i 0)) (λ i. second nodes (getD row i 0)) j (replicate 18 plus0) (omega arith)))
 
 pub gathered-is : (m : Mesh) (e : ℕ) {f : ℕ} {row : List ℕ} {xy : List Float} → f ≡ nodesOf (m .family) → row ≡ elementNodes m e → xy ≡ over (each (pairOf (m .nodes) row) f) (replicate 18 plus0) → record { count = f; xy = xy } ≡ gathered m e
 unfolding gathered

@@ -11,9 +11,9 @@ use Rattle.definition.specs.Lists.{every}
 use Rattle.definition.specs.Elements.{nodesOf}
 use Rattle.definition.specs.Mesh.{Mesh, nodeCount, elementCount, nodeOf}
 use Rattle.definition.specs.Questions.{Question, ask, asked, nodeNumbers}
-use Rattle.definition.proofs.Passing.{passes}
+use Rattle.definition.proofs.Lists.{every-next}
+use Rattle.definition.proofs.Passing.{passes, all-asked, first-refused}
 use Rattle.definition.proofs.Renumbering.Moves.{node-at}
-use Rattle.mesh.proofs.Asking.{every-next, all-asked, first-refused}
 
 -- whether the node at local place j of element e is below the node count
 abbrev pub known : Mesh → ℕ → ℕ → Bool

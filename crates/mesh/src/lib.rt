@@ -7,10 +7,10 @@ ghost use Prim.Native.Nat.{_+_, _*_, _^_, _≤_, _<_, min};
 ghost use lib.Dec.{leb, ltb};
 ghost use lib.ListN.{length, getD, drop};
 ghost use lib.Ieee.{nan};
-ghost use Rattle.definition.specs.Mesh.{Mesh, elementCount, elementNodes, gathered, isIn, distinct, repeatedCount};
-ghost use Rattle.definition.specs.Questions.{ask, asked, verdictOutcome, whole, isFamily, familyKnown, nodesWhole, elementsWhole, nodeNumbers};
-ghost use Rattle.definition.proofs.Passing.{onward};
+ghost use Rattle.definition.specs.Mesh.{Mesh, elementCount, pairAt, elementNodes, gathered, isIn, distinct, repeatedCount};
+ghost use Rattle.definition.specs.Questions.{ask, asked, onward, verdictOutcome, whole, familyKnown, nodesWhole, elementsWhole, nodeNumbers};
 use definition::GatheredElement;
+use definition::Point;
 use definition::Verdict;
 
 // ---- the questions
@@ -43,19 +43,12 @@ pub fn whole(size: usize, len: usize) -> bool
     }
 }
 
-// Whether the family is 4 or 9.
-fn is_family(family: usize) -> bool
-    ensures { λ r. ⌜ r ≡ isFamily family ⌝ }
-{
-    if family == 4 { true } else { family == 9 }
-}
-
 // Questions 1, 2 and 3, each at place 0: is the family 4 or 9, are there whole nodes and whole elements, at most 1,000,000 of each?
 pub fn mesh_questions(family: usize, nodes_rz: &[f64], elements: &[u32]) -> Verdict
     ensures { λ r. ⌜ (let m : Mesh = record { family = family; nodes = now («nodes_rz» .entry); elements = now (elements .entry) } in
         verdictOutcome r ≡ asked (familyKnown m ∷ nodesWhole m ∷ elementsWhole m ∷ []) tt) ⌝ }
 {
-    let v = then(Verdict::Passed, is_family(family), 1, 0);
+    let v = then(Verdict::Passed, elements::is_family(family), 1, 0);
     let v = then(v, whole(2, nodes_rz.len()), 2, 0);
     then(
         v,
@@ -150,14 +143,31 @@ fn node_at(row: &[u32], j: usize) -> usize
     if j < row.len() { wide(row[j]) } else { 0 }
 }
 
-// The number at a place of the node list, NaN past its end.
-fn coordinate(nodes_rz: &[f64], at: usize) -> f64
-    ensures { λ r. ⌜ r ≡ getD (now («nodes_rz» .entry)) at nan ⌝ }
+// The number at a place of a list of coordinates, NaN past its end.
+fn coordinate(pairs: &[f64], at: usize) -> f64
+    ensures { λ r. ⌜ r ≡ getD (now (pairs .entry)) at nan ⌝ }
 {
-    if at < nodes_rz.len() {
-        nodes_rz[at]
+    if at < pairs.len() {
+        pairs[at]
     } else {
         0.0 / 0.0
+    }
+}
+
+// Node or point i of a list of coordinate pairs, with NaN for what is past its end.
+pub fn pair_at(pairs: &[f64], i: usize) -> Point
+    ensures { λ r. ⌜ r ≡ pairAt (now (pairs .entry)) i ⌝ }
+{
+    if i < pairs.len() {
+        Point {
+            x: coordinate(pairs, 2 * i),
+            y: coordinate(pairs, 2 * i + 1),
+        }
+    } else {
+        Point {
+            x: 0.0 / 0.0,
+            y: 0.0 / 0.0,
+        }
     }
 }
 
@@ -176,10 +186,9 @@ pub fn element_coords(
     let mut local_index: usize = 0;
     while local_index < f {
         let node = node_at(row, local_index);
-        let x = coordinate(nodes_rz, 2 * node);
-        let y = coordinate(nodes_rz, 2 * node + 1);
-        xy[2 * local_index] = x;
-        xy[2 * local_index + 1] = y;
+        let p = pair_at(nodes_rz, node);
+        xy[2 * local_index] = p.x;
+        xy[2 * local_index + 1] = p.y;
         local_index += 1;
     }
     GatheredElement { count: f, xy }

@@ -11,7 +11,7 @@ ghost use mathlib.Core.Path.{_≡_};
 ghost use Prim.Native.Nat.{_<_};
 ghost use lib.Ieee.{le};
 ghost use lib.ListN.{getD};
-ghost use Rattle.definition.specs.Binary64.{plus0, clampOf, magnitude, squaredDistance};
+ghost use Rattle.definition.specs.Binary64.{plus0, clampOf, magnitude};
 ghost use Rattle.definition.specs.Mapping.{pointAt};
 ghost use Rattle.definition.specs.Search.{hessianDet, nextReference, tangentSquare, nextS, walked, placed, reference, elementStep, elementSeeds, elementBest, faceStep, facePoint, faceSeeds, faceBest, closestReferencePoint, closestFacePoint};
 ghost use Rattle.search.specs.Search.{element, elementPlace, facePlace};
@@ -55,14 +55,6 @@ fn within(x: f64, bound: f64) -> bool
     ensures { λ r. ⌜ r ≡ le (magnitude x) bound ⌝ }
 {
     if x < 0.0 { -x <= bound } else { x <= bound }
-}
-
-fn squared_distance(ax: f64, ay: f64, bx: f64, by: f64) -> f64
-    ensures { λ r. ⌜ r ≡ squaredDistance ax ay bx by ⌝ }
-{
-    let dx = ax - bx;
-    let dy = ay - by;
-    dx * dx + dy * dy
 }
 
 // The determinant of J transposed times J.
@@ -129,7 +121,7 @@ fn element_walk(
             f.point.y - target.y,
             r,
         );
-        let length = squared_distance(r.xi, r.eta, n.xi, n.eta);
+        let length = root::squared_distance(r.xi, r.eta, n.xi, n.eta);
         r = n;
         if length <= SHORT_SQUARE {
             break;
@@ -143,7 +135,7 @@ fn element_place(count: usize, xy: &[f64; 18], target: Point, r: Reference) -> E
     ensures { λ b. ⌜ b ≡ elementPlace (placed (pointAt (element count (now (xy .entry)))) target r) ⌝ }
 {
     let point = mapping::point_at(count, xy, r);
-    let square = squared_distance(point.x, point.y, target.x, target.y);
+    let square = root::squared_distance(point.x, point.y, target.x, target.y);
     ElementBest {
         reference: r,
         point,
@@ -264,7 +256,7 @@ fn face_place(count: usize, xy: &[f64; 18], local_face: u8, target: Point, s: f6
             eta: f.eta,
         },
     );
-    let square = squared_distance(point.x, point.y, target.x, target.y);
+    let square = root::squared_distance(point.x, point.y, target.x, target.y);
     FaceBest { s, point, square }
 }
 

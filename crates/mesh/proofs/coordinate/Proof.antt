@@ -17,7 +17,7 @@ returns c = search needs
 
 returns-2 : tie.Need-returns-2
 unfolding ofBits div
-returns-2 c = sym (List·getD-eq-default (c .before .args .nodes-rz .now) nan (c .if1 .left))
+returns-2 c = sym (List·getD-eq-default (c .before .args .pairs .now) nan (c .if1 .left))
 
 pub coordinate-spec : {M : Type 1} → statement M
 coordinate-spec = tie.close (tie.spec mul-result shared-slice-read-result returns returns-2)

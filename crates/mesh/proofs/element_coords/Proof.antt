@@ -32,20 +32,8 @@ loop-holds c = (search needs, refl)
 node-at-requires : tie.Need-node-at-requires Inv-loop μ-loop
 node-at-requires c κs = search needs
 
-mul-coordinate : tie.Need-mul-coordinate Inv-loop μ-loop
-mul-coordinate c = search needs
-
-coordinate-requires : tie.Need-coordinate-requires Inv-loop μ-loop
-coordinate-requires c κs = search needs
-
-mul-coordinate-2 : tie.Need-mul-coordinate-2 Inv-loop μ-loop
-mul-coordinate-2 c = search needs
-
-add-coordinate : tie.Need-add-coordinate Inv-loop μ-loop
-add-coordinate c = search needs
-
-coordinate-requires-2 : tie.Need-coordinate-requires-2 Inv-loop μ-loop
-coordinate-requires-2 c κs = search needs
+pair-at-requires : tie.Need-pair-at-requires Inv-loop μ-loop
+pair-at-requires c κs = search needs
 
 mul-xy : tie.Need-mul-xy Inv-loop μ-loop
 mul-xy c = search needs
@@ -76,9 +64,8 @@ loop-less c = search needs
 
 loop-again : tie.Need-loop-again Inv-loop μ-loop
 loop-again c =
-    let l = c .before .before .before .before in
-    let o = c .before .before .node-at .ensures in
-    (search needs, gather-next (l .before .before .before .before .before .args .nodes-rz .now) (l .before .element-nodes .result .now) (l .loop .local-index) (omega arith) (l .loop .inv .1) (o .0) (c .before .coordinate .ensures) (c .coordinate2 .ensures))
+    let l = c .before .before .before in
+    (search needs, gather-next (l .before .before .before .before .before .args .nodes-rz .now) (l .before .element-nodes .result .now) (l .loop .local-index) (omega arith) (l .loop .inv .1) (c .before .node-at .ensures .0) (c .pair-at .ensures))
 
 returns : tie.Need-returns Inv-loop μ-loop
 returns c =
@@ -98,11 +85,7 @@ element-coords-spec =
     element-nodes-requires
     loop-holds
     node-at-requires
-    mul-coordinate
-    coordinate-requires
-    mul-coordinate-2
-    add-coordinate
-    coordinate-requires-2
+    pair-at-requires
     mul-xy
     mul-xy-2
     array-write-xy

@@ -12,8 +12,8 @@ use lib.Ieee.{Float}
 use Rattle.definition.specs.Lists.{every}
 use Rattle.definition.specs.Elements.{nodesOf}
 use Rattle.definition.specs.Mesh.{Mesh}
+use Rattle.definition.proofs.Lists.{every-next, every-fails}
 use Rattle.definition.proofs.Passing.{passes}
-use Rattle.mesh.proofs.Asking.{every-next, every-fails}
 use Rattle.mesh.proofs.NodeNumbers.{known, numbered, read-known, walk-next, walked, stopped}
 use Rattle.mesh.proofs.Rows.{below-length, row-fits}
 use Rattle.mesh.proofs.first_bad.Statement.{statement}

@@ -4,7 +4,7 @@ use mathlib.Core.List.{[], _∷_}
 use borrow.Author.Needs.{needs}
 use Rattle.definition.specs.Mesh.{Mesh}
 use Rattle.definition.specs.Questions.{asked, familyKnown, nodesWhole, elementsWhole}
-use Rattle.mesh.proofs.Asking.{asked-then}
+use Rattle.definition.proofs.Passing.{asked-then}
 use Rattle.mesh.proofs.mesh_questions.Statement.{statement}
 use Rattle.mesh.proofs.mesh_questions.Tie as tie
 

@@ -1,7 +1,7 @@
 use mathlib.Core.Path.{refl}
 use Rattle.definition.specs.Binary64.{squaredDistance}
-use Rattle.search.proofs.squared_distance.Statement.{statement}
-use Rattle.search.proofs.squared_distance.Tie as tie
+use Rattle.root.proofs.squared_distance.Statement.{statement}
+use Rattle.root.proofs.squared_distance.Tie as tie
 
 returns : tie.Need-returns
 unfolding squaredDistance

@@ -1,7 +1,7 @@
--- `is_family` meets its contract: each way returns what the definition's two tests give there. Assumes nothing.
+-- `elements::is_family` meets its contract: each way returns what the definition's two tests give there. Assumes nothing.
 use borrow.Author.Tests.{eq-eqb, ne-eqb}
-use Rattle.mesh.proofs.is_family.Statement.{statement}
-use Rattle.mesh.proofs.is_family.Tie as tie
+use Rattle.elements.proofs.is_family.Statement.{statement}
+use Rattle.elements.proofs.is_family.Tie as tie
 
 returns : tie.Need-returns
 returns c = simp (eq-eqb _ _ (c .if1 .taken))

@@ -1,0 +1,5 @@
+pub mod Floats
+pub mod Answers
+pub mod Longest
+pub mod Prefix
+pub mod Promised

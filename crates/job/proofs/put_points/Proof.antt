@@ -1,0 +1,55 @@
+-- `put_points` meets its contract. The loop's invariant: the lines of the points met stand in the output. Assumes nothing.
+use mathlib.Core.Path.{_≡_, refl}
+use Prim.Native.Nat.{_-_, _≤_}
+use native.Mathlib.Omega.{arith}
+use borrow.Author.Needs.{needs}
+use Rattle.definition.specs.Lists.{each}
+use Rattle.definition.specs.Job.{pointLine}
+use Rattle.listing.specs.Page.{page, typed}
+use Rattle.listing.proofs.Pages.{typed-each, typed-keeps}
+use Rattle.query.specs.Query.{lists}
+use Rattle.job.specs.Answers.{answerIn}
+use Rattle.job.proofs.put_points.Statement.{statement}
+use Rattle.job.proofs.put_points.Tie as tie
+
+abbrev Inv-loop : tie.InvT-loop
+Inv-loop n nearest-node-indices nearest-node-points nearest-node-distances nearest-element-indices nearest-element-reference-points nearest-element-points nearest-element-distances nearest-face-element-indices nearest-face-local-faces nearest-face-reference-coordinates nearest-face-points nearest-face-distances out₀ start at₀ p₀ out at p =
+    (p ≤ n) × (page out at ≡ typed (page out₀ start) (each (λ i. pointLine i (answerIn (lists nearest-node-indices nearest-node-points nearest-node-distances nearest-element-indices nearest-element-reference-points nearest-element-points nearest-element-distances nearest-face-element-indices nearest-face-local-faces nearest-face-reference-coordinates nearest-face-points nearest-face-distances) i)) p))
+
+abbrev μ-loop : tie.MeasureT-loop
+μ-loop n nearest-node-indices nearest-node-points nearest-node-distances nearest-element-indices nearest-element-reference-points nearest-element-points nearest-element-distances nearest-face-element-indices nearest-face-local-faces nearest-face-reference-coordinates nearest-face-points nearest-face-distances out₀ start at₀ p₀ out at p = n - p
+
+loop-holds : tie.Need-loop-holds Inv-loop μ-loop
+unfolding each typed
+loop-holds c = (omega arith, refl)
+
+loop-again : tie.Need-loop-again Inv-loop μ-loop
+loop-again c =
+    let t = c .before .before in
+    let i = t .before .before .before in
+    let l = i .before .loop in
+    let a = i .before .before .before .args in (
+      omega (arith, i .loop-test .taken),
+      typed-each _ (λ p. pointLine p (answerIn (lists (a .nearest-node-indices .now) (a .nearest-node-points .now) (a .nearest-node-distances .now) (a .nearest-element-indices .now) (a .nearest-element-reference-points .now) (a .nearest-element-points .now) (a .nearest-element-distances .now) (a .nearest-face-element-indices .now) (a .nearest-face-local-faces .now) (a .nearest-face-reference-coordinates .now) (a .nearest-face-points .now) (a .nearest-face-distances .now)) p)) (l .p) (l .inv .1) (rw (t .before .before .answer-at .ensures) at (t .put-point .ensures)),
+    )
+
+returns : tie.Need-returns Inv-loop μ-loop
+returns c =
+    let l = c .before .loop in
+    let e : l .p ≡ c .before .before .before .args .n = omega arith in
+    rw e at (l .inv .1)
+
+pub put-points-spec : {M : Type 1} → statement M
+put-points-spec =
+    tie.close
+    (tie.spec
+    Inv-loop
+    μ-loop
+    loop-holds
+    (λ c κs. omega arith)
+    (λ c κs. search needs)
+    (λ c. omega arith)
+    (λ c. omega arith)
+    loop-again
+    (λ c. typed-keeps _ _ (c .before .loop .inv .1))
+    returns)

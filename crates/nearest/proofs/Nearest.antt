@@ -1,0 +1,41 @@
+-- One element more, and its four faces: by `chosen-more`, with face 4 × i + f as face f of element i. Assumes nothing.
+use mathlib.Core.Path.{_≡_, refl, ap, _∙_}
+use Prim.Native.Nat.{ℕ, _+_, _*_, _/_, _%_, _<_}
+use native.Mathlib.Omega.{arith}
+use Rattle.definition.specs.Choice.{pick, nodeSquare, nodeAnswer, elementAnswer, elementDistance, faceAnswer, faceDistance, pointAnswer}
+use Rattle.definition.specs.Mesh.{Mesh, nodeCount, elementCount, gathered}
+use Rattle.definition.specs.Search.{closestReferencePoint, closestFacePoint}
+use Rattle.definition.specs.declared.Point.{Point}
+use Rattle.definition.specs.declared.NodeProjection.{NodeProjection}
+use Rattle.definition.specs.declared.ElementProjection.{ElementProjection}
+use Rattle.definition.specs.declared.FaceProjection.{FaceProjection}
+use Rattle.nearest.specs.Nearest.{nearerElement, nearerFace, otherFaces}
+use Rattle.nearest.proofs.Choosing.{chosen-more}
+
+module _ (m : Mesh) (limit : ℕ) (t : Point) where
+  pub next-element : (i : ℕ) {best : ElementProjection} → best ≡ elementAnswer m limit t (pick (elementDistance m limit t) i) →
+      nearerElement best (closestReferencePoint (gathered m i) i t limit) ≡ elementAnswer m limit t (pick (elementDistance m limit t) (i + 1))
+  unfolding nearerElement
+  next-element i p = chosen-more (elementAnswer m limit t) (λ a. a .distance) i p refl
+
+  -- k faces have been met, and face f of element i is the next
+  pub next-face : (i f : ℕ) {k : ℕ} {best : FaceProjection} → f < 4 → k ≡ 4 * i + f → best ≡ faceAnswer m limit t (pick (faceDistance m limit t) k) →
+      nearerFace best (closestFacePoint (gathered m i) i f t limit) ≡ faceAnswer m limit t (pick (faceDistance m limit t) (k + 1))
+  unfolding nearerFace
+  next-face i f {k} l n p =
+      let e : k / 4 ≡ i = omega arith in
+      let r : k % 4 ≡ f = omega arith in
+      chosen-more (faceAnswer m limit t) (λ a. a .distance) k p (rw (e, r))
+
+  pub next-faces : (i : ℕ) {best : FaceProjection} → best ≡ faceAnswer m limit t (pick (faceDistance m limit t) (4 * i + 1)) →
+      otherFaces best (gathered m i) i t limit ≡ faceAnswer m limit t (pick (faceDistance m limit t) (4 * (i + 1)))
+  unfolding otherFaces
+  next-faces i p =
+      let all : 4 * i + 1 + 1 + 1 + 1 ≡ 4 * (i + 1) = omega arith in
+      next-face i 3 (omega arith) (omega arith) (next-face i 2 (omega arith) (omega arith) (next-face i 1 (omega arith) (omega arith) p)) ∙ ap (λ n. faceAnswer m limit t (pick (faceDistance m limit t) n)) all
+
+  -- the three walks to their ends
+  pub point-answered : {n : ℕ} {node : NodeProjection} {element : ElementProjection} {face : FaceProjection} → n ≡ elementCount m → node ≡ nodeAnswer m limit t (pick (nodeSquare m limit t) (nodeCount m)) → element ≡ elementAnswer m limit t (pick (elementDistance m limit t) n) → face ≡ faceAnswer m limit t (pick (faceDistance m limit t) (4 * n)) →
+      record { node = node; element = element; face = face } ≡ pointAnswer m limit t
+  unfolding pointAnswer
+  point-answered n p q r = rw (p, q, r, n)

@@ -1,0 +1,11 @@
+use borrow.Author.Needs.{needs}
+use Rattle.nearest.specs.Nearest.{otherFaces}
+use Rattle.nearest.proofs.other_faces.Statement.{statement}
+use Rattle.nearest.proofs.other_faces.Tie as tie
+
+returns : tie.Need-returns
+unfolding otherFaces
+returns c = rw (c .before .nearer-face2 .ensures, c .before .before .nearer-face .ensures) at (c .nearer-face3 .ensures)
+
+pub other-faces-spec : {M : Type 1} → statement M
+other-faces-spec = tie.close (tie.spec (λ c κs. search needs) (λ c κs. search needs) (λ c κs. search needs) returns)
