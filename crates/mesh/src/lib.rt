@@ -1,107 +1,15 @@
-// The questions on the lists of a mesh, and what is read of its elements. It knows the definition alone: no search, no lent output and no job file.
+// What is read of the lists of a mesh: an element's row and coordinates, and how many elements repeat a node. It knows the definition and the families: no question, no search and no job file.
 // A mesh is three parameters: its family; `nodes_rz`, two coordinates a node in the mesh's unit of length; and `elements`, the connectivity, F node numbers an element.
 // Element and node numbers start at 0. Every call has an answer for every list and every number.
 ghost use mathlib.Core.Path.{_≡_};
-ghost use mathlib.Core.List.{[], _∷_};
+ghost use mathlib.Core.List.{[]};
 ghost use Prim.Native.Nat.{_+_, _*_, _^_, _≤_, _<_, min};
-ghost use lib.Dec.{leb, ltb};
+ghost use lib.Dec.{ltb};
 ghost use lib.ListN.{length, getD, drop};
 ghost use lib.Ieee.{nan};
-ghost use Rattle.definition.specs.Mesh.{Mesh, elementCount, pairAt, elementNodes, gathered, isIn, distinct, repeatedCount};
-ghost use Rattle.definition.specs.Questions.{ask, asked, onward, verdictOutcome, whole, familyKnown, nodesWhole, elementsWhole, nodeNumbers};
+ghost use Rattle.definition.specs.Mesh.{pairAt, elementNodes, gathered, isIn, distinct, repeatedCount};
 use definition::GatheredElement;
 use definition::Point;
-use definition::Verdict;
-
-// ---- the questions
-
-// The verdict so far, and after a pass one question more: where it does not hold, its number and its place.
-pub fn then(v: Verdict, holds: bool, question: u8, place: usize) -> Verdict
-    ensures { λ r. ⌜ verdictOutcome r ≡ onward (verdictOutcome v) (asked (ask question place holds ∷ []) tt) ⌝ }
-{
-    match v {
-        Verdict::Passed => if holds {
-            Verdict::Passed
-        } else {
-            Verdict::Refused { question, place }
-        },
-        Verdict::Refused { .. } => v,
-    }
-}
-
-// Whether a list of len numbers is whole records of size numbers, at most 1,000,000 of them. With size 0 only the empty list is.
-pub fn whole(size: usize, len: usize) -> bool
-    ensures { λ r. ⌜ r ≡ whole size len ⌝ }
-{
-    if size == 0 {
-        return len == 0;
-    }
-    if len % size == 0 {
-        len / size <= 1000000
-    } else {
-        false
-    }
-}
-
-// Questions 1, 2 and 3, each at place 0: is the family 4 or 9, are there whole nodes and whole elements, at most 1,000,000 of each?
-pub fn mesh_questions(family: usize, nodes_rz: &[f64], elements: &[u32]) -> Verdict
-    ensures { λ r. ⌜ (let m : Mesh = record { family = family; nodes = now («nodes_rz» .entry); elements = now (elements .entry) } in
-        verdictOutcome r ≡ asked (familyKnown m ∷ nodesWhole m ∷ elementsWhole m ∷ []) tt) ⌝ }
-{
-    let v = then(Verdict::Passed, elements::is_family(family), 1, 0);
-    let v = then(v, whole(2, nodes_rz.len()), 2, 0);
-    then(
-        v,
-        whole(elements::nodes_per_element(family), elements.len()),
-        3,
-        0,
-    )
-}
-
-// A node number as a place of a list.
-fn wide(x: u32) -> usize
-    ensures { λ r. ⌜ r ≡ x ⌝ }
-    ensures { λ r. ⌜ r < 2 ^ 32 ⌝ }
-{
-    x as usize
-}
-
-// The first element with a node number that is not below the node count, or the count of elements where there is none.
-// To ask whether that is past the last element, with it as the place, is to ask question 8.
-fn first_bad(family: usize, nodes_rz: &[f64], elements: &[u32]) -> usize
-    ensures { λ r. ⌜ (let m : Mesh = record { family = family; nodes = now («nodes_rz» .entry); elements = now (elements .entry) } in
-        asked (ask 8 r (leb (elementCount m) r) ∷ []) (tt {0}) ≡ asked (nodeNumbers m) tt) ⌝ }
-{
-    let f = elements::nodes_per_element(family);
-    let node_count = nodes_rz.len() / 2;
-    let count = elements.len() / f;
-    let mut element_index: usize = 0;
-    'walk: while element_index < count {
-        let start = f * element_index;
-        let mut local_index: usize = 0;
-        while local_index < f {
-            if node_count <= wide(elements[start + local_index]) {
-                break 'walk;
-            }
-            local_index += 1;
-        }
-        element_index += 1;
-    }
-    element_index
-}
-
-// Question 8, at the first element that is answered no: is every node number below the node count? `validate_connectivity` of the Rust.
-pub fn connectivity_question(family: usize, nodes_rz: &[f64], elements: &[u32]) -> Verdict
-    ensures { λ r. ⌜ verdictOutcome r ≡ asked (nodeNumbers (record { family = family; nodes = now («nodes_rz» .entry); elements = now (elements .entry) })) tt ⌝ }
-{
-    let bad = first_bad(family, nodes_rz, elements);
-    then(
-        Verdict::Passed,
-        elements.len() / elements::nodes_per_element(family) <= bad,
-        8,
-        bad,
-    )
-}
 
 // ---- one element
 
@@ -133,6 +41,14 @@ pub fn element_nodes<'a>(family: usize, elements: &'a [u32], element_index: usiz
     let start = row_start(f, element_index, elements.len());
     let end = row_end(f, start, elements.len());
     &elements[start..end]
+}
+
+// A node number as a place of a list.
+fn wide(x: u32) -> usize
+    ensures { λ r. ⌜ r ≡ x ⌝ }
+    ensures { λ r. ⌜ r < 2 ^ 32 ⌝ }
+{
+    x as usize
 }
 
 // The node at local place j of a row, 0 where the row is shorter.

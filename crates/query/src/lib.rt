@@ -164,16 +164,16 @@ fn questions(
     ensures { λ r. ⌜ ((lent : QueryLists) → room ≡ queryRoom lent (pairCount (now (points .entry))) →
         verdictOutcome r ≡ asked (queryQuestions (call family «max_iterations» (now («nodes_rz» .entry)) (now (elements .entry)) (now (points .entry))) lent) tt) ⌝ }
 {
-    let v = mesh::mesh_questions(family, nodes_rz, elements);
-    let v = mesh::then(v, max_iterations <= 1000, 4, 0);
-    let v = mesh::then(v, mesh::whole(2, points.len()), 5, 0);
-    let v = mesh::then(v, room, 7, 0);
+    let v = questions::mesh_questions(family, nodes_rz, elements);
+    let v = questions::then(v, max_iterations <= 1000, 4, 0);
+    let v = questions::then(v, questions::whole(2, points.len()), 5, 0);
+    let v = questions::then(v, room, 7, 0);
     if let Verdict::Refused { .. } = v {
         return v;
     }
-    let v = mesh::connectivity_question(family, nodes_rz, elements);
-    let v = mesh::then(v, 0 < nodes_rz.len() / 2, 9, 0);
-    mesh::then(
+    let v = questions::connectivity_question(family, nodes_rz, elements);
+    let v = questions::then(v, 0 < nodes_rz.len() / 2, 9, 0);
+    questions::then(
         v,
         0 < elements.len() / elements::nodes_per_element(family),
         10,

@@ -1,8 +1,8 @@
 -- `connectivity_question` meets its contract: whether the walk of `first_bad` passed the last element, asked at the place where it stands, comes to the same as question 8. Assumes nothing.
 use mathlib.Core.Path.{_∙_}
 use borrow.Author.Needs.{needs}
-use Rattle.mesh.proofs.connectivity_question.Statement.{statement}
-use Rattle.mesh.proofs.connectivity_question.Tie as tie
+use Rattle.questions.proofs.connectivity_question.Statement.{statement}
+use Rattle.questions.proofs.connectivity_question.Tie as tie
 
 first-bad-requires : tie.Need-first-bad-requires
 first-bad-requires c κs = search needs

@@ -14,10 +14,10 @@ use Rattle.definition.specs.Elements.{nodesOf}
 use Rattle.definition.specs.Mesh.{Mesh}
 use Rattle.definition.proofs.Lists.{every-next, every-fails}
 use Rattle.definition.proofs.Passing.{passes}
-use Rattle.mesh.proofs.NodeNumbers.{known, numbered, read-known, walk-next, walked, stopped}
+use Rattle.questions.proofs.NodeNumbers.{known, numbered, read-known, walk-next, walked, stopped}
 use Rattle.mesh.proofs.Rows.{below-length, row-fits}
-use Rattle.mesh.proofs.first_bad.Statement.{statement}
-use Rattle.mesh.proofs.first_bad.Tie as tie
+use Rattle.questions.proofs.first_bad.Statement.{statement}
+use Rattle.questions.proofs.first_bad.Tie as tie
 
 abbrev mesh : ℕ → List Float → List ℕ → Mesh
 mesh family nodes elements = record { family = family; nodes = nodes; elements = elements }

@@ -5,8 +5,8 @@ use borrow.Author.Needs.{needs}
 use Rattle.definition.specs.Mesh.{Mesh}
 use Rattle.definition.specs.Questions.{asked, familyKnown, nodesWhole, elementsWhole}
 use Rattle.definition.proofs.Passing.{asked-then}
-use Rattle.mesh.proofs.mesh_questions.Statement.{statement}
-use Rattle.mesh.proofs.mesh_questions.Tie as tie
+use Rattle.questions.proofs.mesh_questions.Statement.{statement}
+use Rattle.questions.proofs.mesh_questions.Tie as tie
 
 is-family-requires : tie.Need-is-family-requires
 is-family-requires c κs = search needs

@@ -1,0 +1,2 @@
+-- Laws that the proofs share.
+mod NodeNumbers
