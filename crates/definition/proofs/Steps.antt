@@ -1,14 +1,14 @@
 -- Single steps of the two searches at each bound and just past it, at a NaN and at a determinant that rounds below zero; and the order of the seeds. Every row is computed.
 -- Assumes nothing.
 use mathlib.Core.Path.{_≡_, refl}
-use mathlib.Core.Bool.{false, cond}
-use mathlib.Core.List.{[], _∷_, _++_}
+use mathlib.Core.Bool.{false, cond, _&&_}
+use mathlib.Core.List.{[], _∷_, _++_, map}
 use Prim.Native.Nat.{ℕ, _^_}
-use lib.Dec.{ltb}
+use lib.Dec.{ltb, eqb}
 use lib.ListN.{replicate}
-use lib.Ieee.{Float, nan, binary64, neg, eq, round}
+use lib.Ieee.{Float, nan, binary64, neg, eq, le, round}
 use Rattle.definition.specs.Lists.{each}
-use Rattle.definition.specs.Binary64.{_⊕_, _⊗_, plus0, one, minusOne}
+use Rattle.definition.specs.Binary64.{_⊕_, _⊖_, _⊗_, plus0, one, two, minusOne}
 use Rattle.definition.specs.Search.{Step, stay, last, more, bestOf, reference, elementStep, elementSeeds, elementBest, faceStep, faceBest}
 use Rattle.definition.specs.declared.Point.{Point}
 use Rattle.definition.specs.declared.Reference.{Reference}
@@ -106,6 +106,17 @@ seeds-in-order :
     ∷ []
 unfolding searching
 seeds-in-order = refl
+
+-- a step that carries each seed by 4 to the right, and a map under which only the place so reached from seed i lies at the target: a step is made from every seed
+abbrev carried : Reference → Reference
+carried r = reference (r .xi ⊕ (two ⊕ two)) (r .eta)
+
+abbrev fromCarried : ℕ → Reference → Point
+fromCarried i r = at (cond (le two (r .xi) && eqb (seedNumber (reference (r .xi ⊖ (two ⊕ two)) (r .eta))) i) plus0 one) plus0
+
+every-seed-steps : each (λ i. bestOf (fromCarried i) (λ r. last (carried r)) (at plus0 plus0) 1 (reference plus0 plus0) elementSeeds 9 .at ∷ []) 9 ≡ map carried elementSeeds
+unfolding searching
+every-seed-steps = refl
 
 -- an element of family 9 whose node under the last seed lies at the target and the others beside it: the last seed is tried
 last-seed-is-tried : elementBest (record { count = 9; xy = replicate 14 one ++ plus0 ∷ plus0 ∷ one ∷ one ∷ [] }) (at plus0 plus0) 0 .at ≡ reference minusOne plus0

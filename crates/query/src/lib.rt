@@ -1,5 +1,5 @@
 // The query: the nearest node, element and face of each point, in twelve lent lists.
-// It knows the definition, the mesh and the answer of one point; nothing of a job file.
+// It knows the definition, the mesh with its questions, and the answer of one point; nothing of a job file.
 // `family` is 4 or 9; `nodes_rz`, `points` and every list of points hold two coordinates each, in the mesh's unit of length; `elements` is the connectivity, F node numbers an element.
 ghost use mathlib.Core.Path.{_≡_};
 ghost use mathlib.Core.Bool.{cond, _&&_};
