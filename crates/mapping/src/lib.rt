@@ -1,38 +1,54 @@
-// The map from the reference square to the plane: points, Jacobians, gradients and tangents of one element. The Rust's mapping.rs.
+// The map from the reference square to the plane: points and Jacobians of one element. The Rust's mapping.rs, its first half.
 // It knows an element by its family and by the coordinates of its nodes, and nothing of a mesh: no node numbers, no questions.
 // Coordinates and gradients stand two a node; the places past the family's nodes are not read. Sums start at +0 and run in local node order.
 
-use definition::FaceReference;
-use definition::InverseJacobian;
 use definition::JacobianMatrix;
 use definition::Point;
 use definition::Reference;
 ghost use mathlib.Core.Path.{_≡_};
+ghost use Prim.Native.Nat.{_≤_, _<_};
 ghost use Rattle.definition.specs.Elements.{nodesOf};
-ghost use Rattle.definition.specs.Mapping.{mapPoint, jacobianOf, detJ, invJ, gradPhys, faceTangent, pointAt, jacobianAt};
+ghost use Rattle.definition.specs.Mapping.{first, second, mapPoint, jacobianOf, pointAt, jacobianAt};
+ghost use Rattle.mapping.specs.Element.{element};
 
-// The sum of N times x, and of N times y.
-pub fn map_point(family: usize, coords: &[f64; 18], n: &[f64; 9]) -> Point
-    ensures { λ r. ⌜ r ≡ mapPoint (now (coords .entry)) (now (n .entry)) (nodesOf family) ⌝ }
+// The two numbers of a node: x and y, or the gradients by xi and by eta.
+struct Pair {
+    first: f64,
+    second: f64,
+}
+
+fn pair_at(list: &[f64; 18], i: usize) -> Pair
+    requires { ⌜ i < 9 ⌝ }
+    ensures { λ r. ⌜ r ≡ record { first = first (now (list .entry)) i; second = second (now (list .entry)) i } ⌝ }
 {
-    let count = elements::nodes_per_element(family);
+    Pair {
+        first: list[2 * i],
+        second: list[2 * i + 1],
+    }
+}
+
+// The part of the first `count` nodes in a point.
+fn point_sum(count: usize, coords: &[f64; 18], n: &[f64; 9]) -> Point
+    requires { ⌜ count ≤ 9 ⌝ }
+    ensures { λ r. ⌜ r ≡ mapPoint (now (coords .entry)) (now (n .entry)) count ⌝ }
+{
     let mut point = Point { x: 0.0, y: 0.0 };
     let mut i: usize = 0;
     while i < count {
-        let k = 2 * i;
+        let Pair { first, second } = pair_at(coords, i);
         let ni = n[i];
-        point.x = point.x + ni * coords[k];
-        point.y = point.y + ni * coords[k + 1];
+        point.x = point.x + ni * first;
+        point.y = point.y + ni * second;
         i += 1;
     }
     point
 }
 
-// The sum of each coordinate times each gradient.
-pub fn jacobian(family: usize, coords: &[f64; 18], grad: &[f64; 18]) -> JacobianMatrix
-    ensures { λ r. ⌜ r ≡ jacobianOf (now (coords .entry)) (now (grad .entry)) (nodesOf family) ⌝ }
+// The part of the first `count` nodes in a Jacobian.
+fn jacobian_sum(count: usize, coords: &[f64; 18], grad: &[f64; 18]) -> JacobianMatrix
+    requires { ⌜ count ≤ 9 ⌝ }
+    ensures { λ r. ⌜ r ≡ jacobianOf (now (coords .entry)) (now (grad .entry)) count ⌝ }
 {
-    let count = elements::nodes_per_element(family);
     let mut jac = JacobianMatrix {
         xxi: 0.0,
         xeta: 0.0,
@@ -41,11 +57,14 @@ pub fn jacobian(family: usize, coords: &[f64; 18], grad: &[f64; 18]) -> Jacobian
     };
     let mut i: usize = 0;
     while i < count {
-        let k = 2 * i;
-        let x = coords[k];
-        let y = coords[k + 1];
-        let dxi = grad[k];
-        let deta = grad[k + 1];
+        let Pair {
+            first: x,
+            second: y,
+        } = pair_at(coords, i);
+        let Pair {
+            first: dxi,
+            second: deta,
+        } = pair_at(grad, i);
         jac.xxi = jac.xxi + x * dxi;
         jac.xeta = jac.xeta + x * deta;
         jac.yxi = jac.yxi + y * dxi;
@@ -55,71 +74,34 @@ pub fn jacobian(family: usize, coords: &[f64; 18], grad: &[f64; 18]) -> Jacobian
     jac
 }
 
-// The area of the plane that a unit of the reference square becomes, negative where the corners run clockwise.
-pub fn det_j(jac: JacobianMatrix) -> f64
-    ensures { λ r. ⌜ r ≡ detJ jac ⌝ }
-{
-    jac.xxi * jac.yeta - jac.xeta * jac.yxi
-}
-
-// The inverse, whatever the determinant: that it is above 0 is a question of the call that asks for the inverse.
-pub fn inv_j(jac: JacobianMatrix) -> InverseJacobian
-    ensures { λ r. ⌜ r ≡ invJ jac ⌝ }
-{
-    let inv_det = 1.0 / det_j(jac);
-    InverseJacobian {
-        xix: jac.yeta * inv_det,
-        xiy: -jac.xeta * inv_det,
-        etax: -jac.yxi * inv_det,
-        etay: jac.xxi * inv_det,
-    }
-}
-
-// The gradients by x, then by y, node after node, from those by xi and eta. The places past the family's nodes hold 0.
-pub fn grad_phys(family: usize, grad_reference: &[f64; 18], inv_jac: InverseJacobian) -> [f64; 18]
-    ensures { λ r. ⌜ r ≡ gradPhys family (now («grad_reference» .entry)) «inv_jac» ⌝ }
-{
-    let count = elements::nodes_per_element(family);
-    let InverseJacobian {
-        xix,
-        xiy,
-        etax,
-        etay,
-    } = inv_jac;
-    let mut out = [0.0; 18];
-    let mut i: usize = 0;
-    while i < count {
-        let k = 2 * i;
-        let dxi = grad_reference[k];
-        let deta = grad_reference[k + 1];
-        out[k] = xix * dxi + etax * deta;
-        out[k + 1] = xiy * dxi + etay * deta;
-        i += 1;
-    }
-    out
-}
-
-// The direction of a face in the plane, by its coordinate s.
-pub fn face_tangent(jac: JacobianMatrix, f: FaceReference) -> Point
-    ensures { λ r. ⌜ r ≡ faceTangent jac f ⌝ }
-{
-    Point {
-        x: jac.xxi * f.dxi + jac.xeta * f.deta,
-        y: jac.yxi * f.dxi + jac.yeta * f.deta,
-    }
-}
-
-// The point of an element at a reference. Each family has an arm of its own, where the count is a number that the compiler knows: the loops become straight code.
-pub fn point_at(family: usize, coords: &[f64; 18], reference: Reference) -> Point
-    ensures { λ r. ⌜ r ≡ pointAt (record { count = family; xy = now (coords .entry) }) reference ⌝ }
+// The sum of N times x, and of N times y. Each family has an arm of its own, where the count is a number that the compiler knows: the loops become straight code.
+pub fn map_point(family: usize, coords: &[f64; 18], n: &[f64; 9]) -> Point
+    ensures { λ r. ⌜ r ≡ mapPoint (now (coords .entry)) (now (n .entry)) (nodesOf family) ⌝ }
 {
     if family == 9 {
-        let n = elements::shape(9, reference.xi, reference.eta);
-        map_point(9, coords, &n)
+        point_sum(9, coords, n)
     } else {
-        let n = elements::shape(4, reference.xi, reference.eta);
-        map_point(4, coords, &n)
+        point_sum(4, coords, n)
     }
+}
+
+// The sum of each coordinate times each gradient.
+pub fn jacobian(family: usize, coords: &[f64; 18], grad: &[f64; 18]) -> JacobianMatrix
+    ensures { λ r. ⌜ r ≡ jacobianOf (now (coords .entry)) (now (grad .entry)) (nodesOf family) ⌝ }
+{
+    if family == 9 {
+        jacobian_sum(9, coords, grad)
+    } else {
+        jacobian_sum(4, coords, grad)
+    }
+}
+
+// The point of an element at a reference.
+pub fn point_at(family: usize, coords: &[f64; 18], reference: Reference) -> Point
+    ensures { λ r. ⌜ r ≡ pointAt (element family (now (coords .entry))) reference ⌝ }
+{
+    let n = elements::shape(family, reference.xi, reference.eta);
+    map_point(family, coords, &n)
 }
 
 // What one step of a search needs: the point of an element at a reference, and the Jacobian there.
@@ -128,23 +110,15 @@ pub struct Frame {
     pub jacobian: JacobianMatrix,
 }
 
+// N and the gradients are made side by side, and `point_at` is not called: the compiler then makes the polynomials that both have but once.
 pub fn frame_at(family: usize, coords: &[f64; 18], reference: Reference) -> Frame
-    ensures { λ r. ⌜ r .point ≡ pointAt (record { count = family; xy = now (coords .entry) }) reference ⌝ }
-    ensures { λ r. ⌜ r .jacobian ≡ jacobianAt (record { count = family; xy = now (coords .entry) }) reference ⌝ }
+    ensures { λ r. ⌜ r .point ≡ pointAt (element family (now (coords .entry))) reference ⌝ }
+    ensures { λ r. ⌜ r .jacobian ≡ jacobianAt (element family (now (coords .entry))) reference ⌝ }
 {
-    if family == 9 {
-        let n = elements::shape(9, reference.xi, reference.eta);
-        let grad = elements::grad_ref(9, reference.xi, reference.eta);
-        Frame {
-            point: map_point(9, coords, &n),
-            jacobian: jacobian(9, coords, &grad),
-        }
-    } else {
-        let n = elements::shape(4, reference.xi, reference.eta);
-        let grad = elements::grad_ref(4, reference.xi, reference.eta);
-        Frame {
-            point: map_point(4, coords, &n),
-            jacobian: jacobian(4, coords, &grad),
-        }
+    let n = elements::shape(family, reference.xi, reference.eta);
+    let grad = elements::grad_ref(family, reference.xi, reference.eta);
+    Frame {
+        point: map_point(family, coords, &n),
+        jacobian: jacobian(family, coords, &grad),
     }
 }

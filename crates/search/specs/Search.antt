@@ -1,15 +1,9 @@
--- A search's bests as the code's structs hold them, and the gathered element that two parameters make.
-use Prim.Native.Nat.{ℕ}
-use mathlib.Core.List.{List}
+-- A search's bests as the code's structs hold them.
 use lib.Ieee.{Float}
 use Rattle.definition.specs.Search.{Best}
 use Rattle.definition.specs.declared.Reference.{Reference}
-use Rattle.definition.specs.declared.GatheredElement.{GatheredElement}
 use Rattle.search.specs.declared.ElementBest.{ElementBest}
 use Rattle.search.specs.declared.FaceBest.{FaceBest}
-
-abbrev pub element : ℕ → List Float → GatheredElement
-element count xy = record { count = count; xy = xy }
 
 abbrev pub elementPlace : Best Reference → ElementBest
 elementPlace b = record { reference = b .at; point = b .point; square = b .square }

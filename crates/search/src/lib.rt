@@ -14,7 +14,8 @@ ghost use lib.ListN.{getD};
 ghost use Rattle.definition.specs.Binary64.{plus0, clampOf, magnitude};
 ghost use Rattle.definition.specs.Mapping.{pointAt};
 ghost use Rattle.definition.specs.Search.{hessianDet, nextReference, tangentSquare, nextS, walked, placed, reference, elementStep, elementSeeds, elementBest, faceStep, facePoint, faceSeeds, faceBest, closestReferencePoint, closestFacePoint};
-ghost use Rattle.search.specs.Search.{element, elementPlace, facePlace};
+ghost use Rattle.mapping.specs.Element.{element};
+ghost use Rattle.search.specs.Search.{elementPlace, facePlace};
 
 // 2^-46: no step is made where the determinant of J transposed times J is at most this in magnitude.
 const SINGULAR: f64 = 1.4210854715202004e-14;
@@ -96,18 +97,16 @@ fn next_reference(j: JacobianMatrix, det: f64, u: f64, v: f64, r: Reference) -> 
     Reference { xi, eta }
 }
 
-// At most `limit` steps from `seed`.
+// At most `left` steps from r.
 fn element_walk(
     count: usize,
     xy: &[f64; 18],
     target: Point,
-    limit: usize,
-    seed: Reference,
+    mut left: usize,
+    mut r: Reference,
 ) -> Reference
-    ensures { λ r. ⌜ r ≡ walked (elementStep (element count (now (xy .entry))) target) limit seed ⌝ }
+    ensures { λ n. ⌜ n ≡ walked (elementStep (element count (now (xy .entry))) target) left r ⌝ }
 {
-    let mut r = seed;
-    let mut left = limit;
     while 0 < left {
         let f = mapping::frame_at(count, xy, r);
         let det = hessian_det(f.jacobian);
@@ -205,19 +204,17 @@ fn next_s(d: Point, square: f64, u: f64, v: f64, s: f64) -> f64
     clamp(s - (d.x * u + d.y * v) / square)
 }
 
-// At most `limit` steps from `seed`.
+// At most `left` steps from s.
 fn face_walk(
     count: usize,
     xy: &[f64; 18],
     local_face: u8,
     target: Point,
-    limit: usize,
-    seed: f64,
+    mut left: usize,
+    mut s: f64,
 ) -> f64
-    ensures { λ r. ⌜ r ≡ walked (faceStep (element count (now (xy .entry))) «local_face» target) limit seed ⌝ }
+    ensures { λ r. ⌜ r ≡ walked (faceStep (element count (now (xy .entry))) «local_face» target) left s ⌝ }
 {
-    let mut s = seed;
-    let mut left = limit;
     while 0 < left {
         let f = elements::face_reference(local_face, s);
         let g = mapping::frame_at(
@@ -228,7 +225,7 @@ fn face_walk(
                 eta: f.eta,
             },
         );
-        let d = mapping::face_tangent(g.jacobian, f);
+        let d = gradients::face_tangent(g.jacobian, f);
         let square = d.x * d.x + d.y * d.y;
         if square <= EPSILON {
             break;

@@ -1,3 +1,4 @@
+-- `search::clamp` meets its contract: by comparisons the clamp is the definition's, for NaN too. Assumes nothing.
 use lib.Ieee.{ofBits, neg}
 use Rattle.definition.proofs.Binary64.{clamp-by-comparisons}
 use Rattle.search.proofs.clamp.Statement.{statement}

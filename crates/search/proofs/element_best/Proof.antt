@@ -1,14 +1,15 @@
-use mathlib.Core.Path.{_≡_, refl, ap, _∙_}
+-- `search::element_best` meets its contract: after i turns the best is that of the first i seeds. Assumes nothing.
+use mathlib.Core.Path.{_≡_, refl, _∙_}
 use mathlib.Core.Logic.{⊎-elim}
 use Prim.Native.Nat.{_≤_, _-_}
 use native.Mathlib.Omega.{arith}
-use borrow.Author.Needs.{needs}
 use lib.Ieee.{ofBits}
 use Rattle.definition.specs.Binary64.{plus0}
 use Rattle.definition.specs.Mapping.{pointAt}
-use Rattle.definition.specs.Search.{walked, placed, bestOf, reference, elementStep, elementSeeds, elementBest}
-use Rattle.search.specs.Search.{element, elementPlace}
-use Rattle.search.proofs.Tried.{smaller, not-smaller}
+use Rattle.definition.specs.Search.{bestOf, reference, elementStep, elementSeeds, elementBest}
+use Rattle.mapping.specs.Element.{element}
+use Rattle.search.specs.Search.{elementPlace}
+use Rattle.search.proofs.Tried.{after}
 use Rattle.search.proofs.element_best.Statement.{statement}
 use Rattle.search.proofs.element_best.Tie as tie
 
@@ -30,10 +31,8 @@ loop-again c =
     let l = seed .before .before .loop in
     let a = seed .before .before .before .before .args in
     let e = element (a .count) (a .xy .now) in
-    let tried = new .element-place2 .ensures ∙ ap (λ r. elementPlace (placed (pointAt e) (a .target) r)) (new .before .element-walk .ensures ∙ ap (λ s. walked (elementStep e (a .target)) (a .limit) s) (seed .element-seed .ensures)) in
-    let yes = smaller elementPlace (λ b. b .square) (λ b. refl) (pointAt e) (elementStep e (a .target)) (a .target) (a .limit) (reference plus0 plus0) elementSeeds (l .i) (l .inv .1) tried in
-    let no = not-smaller elementPlace (λ b. b .square) (λ b. refl) (pointAt e) (elementStep e (a .target)) (a .target) (a .limit) (reference plus0 plus0) elementSeeds (l .i) (l .inv .1) tried in
-    ⊎-elim (λ w. (omega arith, cc (yes (cc (w .0 .taken))))) (λ w. (omega arith, cc (no (cc (w .0 .left))))) (c .if1 .came)
+    let tried = after elementPlace (λ b. b .square) (λ b. refl) (pointAt e) (elementStep e (a .target)) (a .target) (a .limit) (reference plus0 plus0) elementSeeds (l .i) (l .inv .1) (seed .element-seed .ensures) (new .before .element-walk .ensures) (new .element-place2 .ensures) in
+    ⊎-elim (λ w. (omega arith, w .1 ∙ tried .0 (w .0 .taken))) (λ w. (omega arith, w .1 ∙ tried .1 (w .0 .left))) (c .if1 .came)
 
 returns : tie.Need-returns Inv-loop μ-loop
 unfolding elementBest
@@ -45,4 +44,4 @@ returns c =
 pub element-best-spec : {M : Type 1} → statement M
 element-best-spec =
     tie.close
-    (tie.spec Inv-loop μ-loop (λ c κs. search needs) loop-holds (λ c κs. search needs) (λ c κs. search needs) (λ c κs. search needs) (λ c. omega arith) (λ c. omega arith) loop-again returns)
+    (tie.spec Inv-loop μ-loop (λ c κs. tt) loop-holds (λ c κs. omega arith) (λ c κs. tt) (λ c κs. tt) (λ c. omega arith) (λ c. omega arith) loop-again returns)

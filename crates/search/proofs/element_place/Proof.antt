@@ -1,4 +1,4 @@
-use borrow.Author.Needs.{needs}
+-- `search::element_place` meets its contract: `point_at` and `squared_distance` ensure it together. Assumes nothing.
 use Rattle.definition.specs.Search.{placed}
 use Rattle.search.proofs.element_place.Statement.{statement}
 use Rattle.search.proofs.element_place.Tie as tie
@@ -8,4 +8,4 @@ unfolding placed
 returns c = rw (← c .before .point-at .ensures, ← c .squared-distance .ensures)
 
 pub element-place-spec : {M : Type 1} → statement M
-element-place-spec = tie.close (tie.spec (λ c κs. search needs) (λ c κs. search needs) returns)
+element-place-spec = tie.close (tie.spec (λ c κs. tt) (λ c κs. tt) returns)

@@ -1,3 +1,4 @@
+-- `search::element_seed` meets its contract: the two lists hold the coordinates of the definition's seeds. Assumes nothing.
 use mathlib.Core.Path.{_≡_}
 use mathlib.Core.List.{map}
 use Prim.Native.Nat.{ℕ, _<_}

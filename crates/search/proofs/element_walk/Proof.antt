@@ -1,19 +1,19 @@
-use borrow.Author.Needs.{needs}
+-- `search::element_walk` meets its contract: the steps left from the reference in hand end where those from the seed do. Assumes nothing.
 use mathlib.Core.Path.{_≡_, refl, sym, _∙_}
 use native.Mathlib.Omega.{arith}
 use lib.Ieee.{ofBits}
 use Rattle.definition.specs.Search.{elementStep, walked}
 use Rattle.definition.proofs.Search.{walked-none, walked-stay, walked-last, walked-more}
-use Rattle.search.specs.Search.{element}
+use Rattle.mapping.specs.Element.{element}
 use Rattle.search.proofs.Steps.{element-stays, element-ends, element-goes}
 use Rattle.search.proofs.element_walk.Statement.{statement}
 use Rattle.search.proofs.element_walk.Tie as tie
 
 abbrev Inv-loop : tie.InvT-loop
-Inv-loop count xy target limit r₀ left₀ r left = walked (elementStep (element count xy) target) left r ≡ walked (elementStep (element count xy) target) limit r₀
+Inv-loop count xy target left₀ r₀ left r = walked (elementStep (element count xy) target) left r ≡ walked (elementStep (element count xy) target) left₀ r₀
 
 abbrev μ-loop : tie.MeasureT-loop
-μ-loop count xy target limit r₀ left₀ r left = left
+μ-loop count xy target left₀ r₀ left r = left
 
 loop-again : tie.Need-loop-again Inv-loop μ-loop
 unfolding ofBits
@@ -57,4 +57,4 @@ returns-3 c =
 pub element-walk-spec : {M : Type 1} → statement M
 element-walk-spec =
     tie.close
-    (tie.spec Inv-loop μ-loop (λ c. refl) (λ c κs. search needs) (λ c κs. search needs) (λ c κs. search needs) (λ c κs. search needs) (λ c κs. search needs) (λ c. omega arith) (λ c. omega arith) loop-again returns returns-2 returns-3)
+    (tie.spec Inv-loop μ-loop (λ c. refl) (λ c κs. tt) (λ c κs. tt) (λ c κs. tt) (λ c κs. c .before .before .before .before .before .before .hessian-det .ensures) (λ c κs. tt) (λ c. omega arith) (λ c. omega arith) loop-again returns returns-2 returns-3)

@@ -1,13 +1,14 @@
-use mathlib.Core.Path.{_≡_, refl, ap, _∙_}
+-- `search::face_best` meets its contract: after i turns the best is that of the first i seeds. Assumes nothing.
+use mathlib.Core.Path.{_≡_, refl, _∙_}
 use mathlib.Core.Logic.{⊎-elim}
 use Prim.Native.Nat.{_≤_, _-_}
 use native.Mathlib.Omega.{arith}
-use borrow.Author.Needs.{needs}
 use lib.Ieee.{ofBits}
 use Rattle.definition.specs.Binary64.{plus0}
-use Rattle.definition.specs.Search.{walked, placed, bestOf, facePoint, faceStep, faceSeeds, faceBest}
-use Rattle.search.specs.Search.{element, facePlace}
-use Rattle.search.proofs.Tried.{smaller, not-smaller}
+use Rattle.definition.specs.Search.{bestOf, facePoint, faceStep, faceSeeds, faceBest}
+use Rattle.mapping.specs.Element.{element}
+use Rattle.search.specs.Search.{facePlace}
+use Rattle.search.proofs.Tried.{after}
 use Rattle.search.proofs.face_best.Statement.{statement}
 use Rattle.search.proofs.face_best.Tie as tie
 
@@ -29,10 +30,8 @@ loop-again c =
     let l = seed .before .before .loop in
     let a = seed .before .before .before .before .args in
     let e = element (a .count) (a .xy .now) in
-    let tried = new .face-place2 .ensures ∙ ap (λ r. facePlace (placed (facePoint e (a .local-face)) (a .target) r)) (new .before .face-walk .ensures ∙ ap (λ s. walked (faceStep e (a .local-face) (a .target)) (a .limit) s) (seed .face-seed .ensures)) in
-    let yes = smaller facePlace (λ b. b .square) (λ b. refl) (facePoint e (a .local-face)) (faceStep e (a .local-face) (a .target)) (a .target) (a .limit) plus0 faceSeeds (l .i) (l .inv .1) tried in
-    let no = not-smaller facePlace (λ b. b .square) (λ b. refl) (facePoint e (a .local-face)) (faceStep e (a .local-face) (a .target)) (a .target) (a .limit) plus0 faceSeeds (l .i) (l .inv .1) tried in
-    ⊎-elim (λ w. (omega arith, cc (yes (cc (w .0 .taken))))) (λ w. (omega arith, cc (no (cc (w .0 .left))))) (c .if1 .came)
+    let tried = after facePlace (λ b. b .square) (λ b. refl) (facePoint e (a .local-face)) (faceStep e (a .local-face) (a .target)) (a .target) (a .limit) plus0 faceSeeds (l .i) (l .inv .1) (seed .face-seed .ensures) (new .before .face-walk .ensures) (new .face-place2 .ensures) in
+    ⊎-elim (λ w. (omega arith, w .1 ∙ tried .0 (w .0 .taken))) (λ w. (omega arith, w .1 ∙ tried .1 (w .0 .left))) (c .if1 .came)
 
 returns : tie.Need-returns Inv-loop μ-loop
 unfolding faceBest
@@ -44,4 +43,4 @@ returns c =
 pub face-best-spec : {M : Type 1} → statement M
 face-best-spec =
     tie.close
-    (tie.spec Inv-loop μ-loop (λ c κs. search needs) loop-holds (λ c κs. search needs) (λ c κs. search needs) (λ c κs. search needs) (λ c. omega arith) (λ c. omega arith) loop-again returns)
+    (tie.spec Inv-loop μ-loop (λ c κs. tt) loop-holds (λ c κs. omega arith) (λ c κs. tt) (λ c κs. tt) (λ c. omega arith) (λ c. omega arith) loop-again returns)

@@ -1,4 +1,4 @@
-use borrow.Author.Needs.{needs}
+-- `search::face_place` meets its contract: the face's reference, `point_at` and `squared_distance` ensure it together. Assumes nothing.
 use Rattle.definition.specs.Search.{placed, facePoint}
 use Rattle.search.proofs.face_place.Statement.{statement}
 use Rattle.search.proofs.face_place.Tie as tie
@@ -10,4 +10,4 @@ returns c =
     rw (← p .before .face-reference .ensures, ← p .point-at .ensures, ← c .squared-distance .ensures)
 
 pub face-place-spec : {M : Type 1} → statement M
-face-place-spec = tie.close (tie.spec (λ c κs. search needs) (λ c κs. search needs) (λ c κs. search needs) returns)
+face-place-spec = tie.close (tie.spec (λ c κs. tt) (λ c κs. tt) (λ c κs. tt) returns)

@@ -1,3 +1,4 @@
+-- `search::face_seed` meets its contract: the list holds the definition's seeds. Assumes nothing.
 use native.Mathlib.Omega.{arith}
 use lib.Ieee.{nan, ofBits, neg}
 use Rattle.definition.specs.Binary64.{plus0}

@@ -1,19 +1,19 @@
-use borrow.Author.Needs.{needs}
+-- `search::face_walk` meets its contract: the steps left from the coordinate in hand end where those from the seed do. Assumes nothing.
 use mathlib.Core.Path.{_≡_, refl, sym, _∙_}
 use native.Mathlib.Omega.{arith}
 use lib.Ieee.{ofBits}
 use Rattle.definition.specs.Search.{faceStep, walked, tangentSquare}
 use Rattle.definition.proofs.Search.{walked-none, walked-stay, walked-last, walked-more}
-use Rattle.search.specs.Search.{element}
+use Rattle.mapping.specs.Element.{element}
 use Rattle.search.proofs.Steps.{face-stays, face-ends, face-goes}
 use Rattle.search.proofs.face_walk.Statement.{statement}
 use Rattle.search.proofs.face_walk.Tie as tie
 
 abbrev Inv-loop : tie.InvT-loop
-Inv-loop count xy local-face target limit seed s₀ left₀ s left = walked (faceStep (element count xy) local-face target) left s ≡ walked (faceStep (element count xy) local-face target) limit s₀
+Inv-loop count xy local-face target left₀ s₀ left s = walked (faceStep (element count xy) local-face target) left s ≡ walked (faceStep (element count xy) local-face target) left₀ s₀
 
 abbrev μ-loop : tie.MeasureT-loop
-μ-loop count xy local-face target limit seed s₀ left₀ s left = left
+μ-loop count xy local-face target left₀ s₀ left s = left
 
 loop-again : tie.Need-loop-again Inv-loop μ-loop
 unfolding ofBits tangentSquare
@@ -64,4 +64,4 @@ next-s-requires c κs = refl
 pub face-walk-spec : {M : Type 1} → statement M
 face-walk-spec =
     tie.close
-    (tie.spec Inv-loop μ-loop (λ c. refl) (λ c κs. search needs) (λ c κs. search needs) (λ c κs. search needs) next-s-requires (λ c κs. search needs) (λ c. omega arith) (λ c. omega arith) loop-again returns returns-2 returns-3)
+    (tie.spec Inv-loop μ-loop (λ c. refl) (λ c κs. tt) (λ c κs. tt) (λ c κs. tt) next-s-requires (λ c κs. tt) (λ c. omega arith) (λ c. omega arith) loop-again returns returns-2 returns-3)

@@ -1,3 +1,4 @@
+-- `search::hessian_det` meets its contract: the code writes the determinant out as the definition does. Assumes nothing.
 use mathlib.Core.Path.{refl}
 use Rattle.definition.specs.Search.{hessian00, hessian01, hessian10, hessian11, hessianDet}
 use Rattle.search.proofs.hessian_det.Statement.{statement}

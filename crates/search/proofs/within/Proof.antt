@@ -1,3 +1,4 @@
+-- `search::within` meets its contract: the magnitude turns the sign where the number is below 0. Assumes nothing.
 use lib.Ieee.{ofBits}
 use Rattle.definition.proofs.Binary64.{magnitude-by-comparison}
 use Rattle.search.proofs.within.Statement.{statement}

@@ -1,4 +1,4 @@
--- `mapping::grad_phys` meets its contract: after i turns the first i pairs are written over the zeros, and the last turn is that of the family's last node.
+-- `gradients::grad_phys` meets its contract: after i turns the first i pairs are written over the zeros, and the last turn is that of the family's last node.
 -- Assumes nothing.
 use mathlib.Core.Path.{_≡_, refl, sym}
 use mathlib.Core.List.{[], _∷_}
@@ -10,8 +10,8 @@ use Rattle.definition.specs.Lists.{each, over}
 use Rattle.definition.specs.Binary64.{_⊕_, _⊗_, plus0}
 use Rattle.definition.specs.Mapping.{first, second, gradPhys}
 use Rattle.definition.proofs.Lists.{over-pair}
-use Rattle.mapping.proofs.grad_phys.Statement.{statement}
-use Rattle.mapping.proofs.grad_phys.Tie as tie
+use Rattle.gradients.proofs.grad_phys.Statement.{statement}
+use Rattle.gradients.proofs.grad_phys.Tie as tie
 
 abbrev Inv-loop : tie.InvT-loop
 Inv-loop family g count xix xiy etax etay out₀ i₀ out i =
