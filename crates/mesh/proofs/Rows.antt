@@ -1,14 +1,13 @@
 -- The rows of the connectivity: row e is F places from F * e on, as far as the list goes. Assumes nothing.
-use mathlib.Core.Path.{_≡_, refl, ap, _∙_}
+use mathlib.Core.Path.{_≡_, refl, _∙_}
 use mathlib.Core.List.{List, []}
 use Prim.Native.Nat.{ℕ, _+_, _*_, _-_, _/_, _≤_, _<_, min}
-use native.Mathlib.Nat.{mul-suc, mul-le-mul-left, mul-div-le, div-le-self, div-add-mod, mod-lt, min-eq-left, min-eq-right}
-use native.Mathlib.Decide.{decLe}
+use native.Mathlib.Nat.{mul-suc, mul-le-mul-left, mul-div-le, div-le-self}
 use native.Mathlib.Omega.{arith}
-use lib.ListN.{length, take, drop, length-take, length-drop, drop-of-length-le}
-use lib.Seq.{take-all, take-length, drop-length}
+use lib.ListN.{length, take, drop, length-take, length-drop}
 use Rattle.definition.specs.Elements.{nodesOf}
 use Rattle.definition.specs.Mesh.{Mesh, elementCount, elementNodes, repeatedCount}
+use Rattle.lists.proofs.Parts.{part-within}
 
 -- ---- where a row lies, among len numbers in rows of f
 
@@ -17,25 +16,6 @@ below-length f e len h = omega (arith, div-le-self len f)
 
 pub row-fits : (f e len : ℕ) → e < len / f → f * e + f ≤ len
 row-fits f e len h = omega (arith, mul-div-le len f, rw mul-suc at (mul-le-mul-left f h))
-
-pub row-begins : (f e len : ℕ) → e ≤ len / f → f * e ≤ len
-row-begins f e len h = omega (arith, mul-div-le len f, mul-le-mul-left f h)
-
-pub row-past : (f e len : ℕ) → 0 < f → len / f < e → len ≤ f * e
-row-past f e len some h = omega (arith, div-add-mod len f, mod-lt len some, rw mul-suc at (mul-le-mul-left f h))
-
--- ---- the part of a list that starts at n and has k entries, as far as the list goes
-
-take-within : {A : Type 0} (k : ℕ) (l : List A) → take (min k (length l)) l ≡ take k l
-take-within k l = elim (decLe k (length l)) [ yes h ↦ rw (min-eq-left h) | no h ↦ let m : length l ≤ k = omega arith in rw (min-eq-right m, take-length, take-all k l m) ]
-
-drop-within : {A : Type 0} (n : ℕ) (l : List A) → drop (min n (length l)) l ≡ drop n l
-drop-within n l = elim (decLe n (length l)) [ yes h ↦ rw (min-eq-left h) | no h ↦ let m : length l ≤ n = omega arith in rw (min-eq-right m, drop-length, drop-of-length-le l m) ]
-
-pub part-within : {A : Type 0} (n k : ℕ) (l : List A) {start end : ℕ} → start ≡ min n (length l) → end ≡ min (start + k) (length l) → take (end - start) (drop start l) ≡ take k (drop n l)
-part-within n k l {start} {end} s e =
-    let size : end - start ≡ min k (length (drop start l)) = rw length-drop (omega arith) in
-    ap (λ j. take j (drop start l)) size ∙ take-within k (drop start l) ∙ ap (take k) (ap (λ j. drop j l) s ∙ drop-within n l)
 
 -- ---- of a mesh
 

@@ -13,78 +13,14 @@ use definition::Point;
 
 // ---- one element
 
-// Where the row of an element of f nodes begins in a list of len numbers, or len where that is past the end.
-fn row_start(f: usize, element_index: usize, len: usize) -> usize
-    requires { ⌜ 0 < f ⌝ }
-    ensures { λ r. ⌜ r ≡ min (f * «element_index») len ⌝ }
-{
-    if element_index <= len / f {
-        f * element_index
-    } else {
-        len
-    }
-}
-
-// Where f places that begin at start end in a list of len numbers, or len where that is past the end.
-fn row_end(f: usize, start: usize, len: usize) -> usize
-    requires { ⌜ start ≤ len ⌝ }
-    ensures { λ r. ⌜ r ≡ min (start + f) len ⌝ }
-{
-    if f <= len - start { start + f } else { len }
-}
-
 // The node numbers of an element: the part of the lent connectivity that is its row. For a number outside the mesh it is empty, or what is left after the last whole row.
 pub fn element_nodes<'a>(family: usize, elements: &'a [u32], element_index: usize) -> &'a [u32]
     ensures { λ r. ⌜ now r ≡ elementNodes (record { family = family; nodes = []; elements = now (elements .entry) }) «element_index» ⌝ }
 {
     let f = elements::nodes_per_element(family);
-    let start = row_start(f, element_index, elements.len());
-    let end = row_end(f, start, elements.len());
+    let start = lists::part_start(f, element_index, elements.len());
+    let end = lists::part_end(f, start, elements.len());
     &elements[start..end]
-}
-
-// A node number as a place of a list.
-fn wide(x: u32) -> usize
-    ensures { λ r. ⌜ r ≡ x ⌝ }
-    ensures { λ r. ⌜ r < 2 ^ 32 ⌝ }
-{
-    x as usize
-}
-
-// The node at local place j of a row, 0 where the row is shorter.
-fn node_at(row: &[u32], j: usize) -> usize
-    ensures { λ r. ⌜ r ≡ getD (now (row .entry)) j 0 ⌝ }
-    ensures { λ r. ⌜ r < 2 ^ 32 ⌝ }
-{
-    if j < row.len() { wide(row[j]) } else { 0 }
-}
-
-// The number at a place of a list of coordinates, NaN past its end.
-fn coordinate(pairs: &[f64], at: usize) -> f64
-    ensures { λ r. ⌜ r ≡ getD (now (pairs .entry)) at nan ⌝ }
-{
-    if at < pairs.len() {
-        pairs[at]
-    } else {
-        0.0 / 0.0
-    }
-}
-
-// Node or point i of a list of coordinate pairs, with NaN for what is past its end.
-pub fn pair_at(pairs: &[f64], i: usize) -> Point
-    ensures { λ r. ⌜ r ≡ pairAt (now (pairs .entry)) i ⌝ }
-{
-    if i < pairs.len() {
-        Point {
-            x: coordinate(pairs, 2 * i),
-            y: coordinate(pairs, 2 * i + 1),
-        }
-    } else {
-        Point {
-            x: 0.0 / 0.0,
-            y: 0.0 / 0.0,
-        }
-    }
 }
 
 // The gathered element: F and the coordinates of its nodes in local order, over zeros. A node outside the mesh has NaN for its coordinates, and a place outside the row has node 0.
@@ -101,8 +37,8 @@ pub fn element_coords(
     let mut xy = [0.0; 18];
     let mut local_index: usize = 0;
     while local_index < f {
-        let node = node_at(row, local_index);
-        let p = pair_at(nodes_rz, node);
+        let node = lists::node_at(row, local_index);
+        let p = lists::pair_at(nodes_rz, node);
         xy[2 * local_index] = p.x;
         xy[2 * local_index + 1] = p.y;
         local_index += 1;

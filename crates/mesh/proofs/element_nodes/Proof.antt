@@ -8,11 +8,11 @@ use Rattle.mesh.proofs.element_nodes.Tie as tie
 nodes-per-element-requires : tie.Need-nodes-per-element-requires
 nodes-per-element-requires c κs = search needs
 
-row-start-requires : tie.Need-row-start-requires
-row-start-requires c κs = search needs
+part-start-requires : tie.Need-part-start-requires
+part-start-requires c κs = search needs
 
-row-end-requires : tie.Need-row-end-requires
-row-end-requires c κs = search needs
+part-end-requires : tie.Need-part-end-requires
+part-end-requires c κs = search needs
 
 mul-result : tie.Need-mul-result
 mul-result c = search needs
@@ -29,15 +29,15 @@ part-result-end c = search needs
 returns : tie.Need-returns
 returns c =
     let a = c .before .before .before .before .before .args in
-    row-is (record { family = a .family; nodes = []; elements = a .elements .now }) (a .element-index) (c .before .before .before .nodes-per-element .ensures .0) (c .before .before .row-start .ensures) (c .before .row-end .ensures)
+    row-is (record { family = a .family; nodes = []; elements = a .elements .now }) (a .element-index) (c .before .before .before .nodes-per-element .ensures .0) (c .before .before .part-start .ensures) (c .before .part-end .ensures)
 
 pub element-nodes-spec : {M : Type 1} → statement M
 element-nodes-spec =
     tie.close
     (tie.spec
     nodes-per-element-requires
-    row-start-requires
-    row-end-requires
+    part-start-requires
+    part-end-requires
     mul-result
     sub-result
     part-result-start

@@ -5,11 +5,11 @@ use native.Mathlib.Omega.{arith}
 use borrow.Author.Needs.{needs}
 use lib.ListN.{length, getD, List·getD-eq-default}
 use lib.Ieee.{nan, ofBits, div}
-use Rattle.mesh.proofs.pair_at.Statement.{statement}
-use Rattle.mesh.proofs.pair_at.Tie as tie
+use Rattle.lists.proofs.pair_at.Statement.{statement}
+use Rattle.lists.proofs.pair_at.Tie as tie
 
 returns : tie.Need-returns
-returns c = rw (c .before .coordinate .ensures, c .coordinate2 .ensures)
+returns c = rw (c .before .value-at .ensures, c .value-at2 .ensures)
 
 returns-2 : tie.Need-returns-2
 unfolding ofBits div

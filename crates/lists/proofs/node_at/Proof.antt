@@ -3,8 +3,8 @@ use mathlib.Core.Path.{sym}
 use native.Mathlib.Omega.{arith}
 use borrow.Author.Needs.{needs}
 use lib.ListN.{List·getD-eq-default}
-use Rattle.mesh.proofs.node_at.Statement.{statement}
-use Rattle.mesh.proofs.node_at.Tie as tie
+use Rattle.lists.proofs.node_at.Statement.{statement}
+use Rattle.lists.proofs.node_at.Tie as tie
 
 mul-wide : tie.Need-mul-wide
 mul-wide c = search needs

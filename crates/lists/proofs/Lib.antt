@@ -1,0 +1,2 @@
+-- Laws that the proofs share, and that the crates above may cite.
+pub mod Parts
