@@ -1,3 +1,3 @@
-pub mod Asking
-pub mod Filling
-pub mod Promised
+-- Laws that the proof of the query cites.
+mod Promised
+mod Room

@@ -1,32 +1,30 @@
--- A refused query and an accepted one keep the query's promise: by what its questions come to. Assumes nothing.
+-- What a query comes to keeps its promise: by what its questions come to. After a refusal no point is answered, and after an acceptance the lists have room. Assumes nothing.
 use mathlib.Core.Path.{_≡_, refl, sym, ap, _∙_}
 use mathlib.Core.Bool.{true}
 use mathlib.Core.List.{[], _∷_}
 use Prim.Native.Nat.{ℕ}
+use Rattle.definition.specs.Lists.{countOf}
 use Rattle.definition.specs.Mesh.{pairCount, repeatedCount}
 use Rattle.definition.specs.Questions.{Outcome, accepted, refused, asked, onward, familyKnown, nodesWhole, elementsWhole, iterationsFew, pointsWhole, room}
-use Rattle.definition.specs.Query.{QueryCall, QueryLists, queryRoom, queryQuestions, insideCount, queried, answersOver, QueryPromise}
-use Rattle.definition.specs.declared.QueryAnswer.the-variants.{Accepted, Refused}
+use Rattle.definition.specs.Query.{QueryCall, QueryLists, QueryCounts, queryOutcome, queryRoom, queryQuestions, insideCount, queried, QueryPromise}
+use Rattle.definition.specs.declared.QueryAnswer.{QueryAnswer}
 use Rattle.definition.proofs.Lists.{and-parts}
 use Rattle.definition.proofs.Passing.{passes, passes-append, asked-accepted, asked-value}
-use Rattle.query.proofs.Asking.{early, late}
+use Rattle.questions.proofs.Asking.{early, late}
+use Rattle.filling.specs.Filled.{isInside, filled}
+use Rattle.query.specs.Query.{allowed}
+use Rattle.query.proofs.Room.{room-holds, filled-answers}
 
-queried-is : (q : QueryCall) (lent : QueryLists) {v : Outcome (Unit {0})} → v ≡ asked (queryQuestions q lent) (tt {0}) → queried q lent ≡ onward v (accepted (record { points = pairCount (q .points); repeated = repeatedCount (q .mesh); inside = insideCount q }))
+-- the numbers of an accepted query of which `inside` points are inside
+abbrev counts : QueryCall → ℕ → QueryCounts
+counts q inside = record { points = pairCount (q .points); repeated = repeatedCount (q .mesh); inside = inside }
+
+queried-is : (q : QueryCall) (lent : QueryLists) {v : Outcome (Unit {0})} → v ≡ asked (queryQuestions q lent) (tt {0}) → queried q lent ≡ onward v (accepted (counts q (insideCount q)))
 unfolding queried
-queried-is q lent e = asked-value (queryQuestions q lent) (record { points = pairCount (q .points); repeated = repeatedCount (q .mesh); inside = insideCount q }) ∙ ap (λ o. onward o (accepted (record { points = pairCount (q .points); repeated = repeatedCount (q .mesh); inside = insideCount q }))) (sym e)
-
-pub refused-kept : (q : QueryCall) (lent : QueryLists) (number place : ℕ) → refused number place ≡ asked (queryQuestions q lent) (tt {0}) → QueryPromise q lent (Refused number place) lent
-refused-kept q lent number place e =
-    let is = queried-is q lent e in
-    record { answers = sym is; leaves = rw is refl }
-
-pub accepted-kept : (q : QueryCall) (lent : QueryLists) {repeated inside : ℕ} {after : QueryLists} → accepted (tt {0}) ≡ asked (queryQuestions q lent) (tt {0}) → repeated ≡ repeatedCount (q .mesh) → inside ≡ insideCount q → after ≡ answersOver q (pairCount (q .points)) lent → QueryPromise q lent (Accepted (pairCount (q .points)) repeated inside) after
-accepted-kept q lent e r i a =
-    let is = queried-is q lent e in
-    record { answers = rw (is, r, i); leaves = rw is a }
+queried-is q lent e = asked-value (queryQuestions q lent) (counts q (insideCount q)) ∙ ap (λ o. onward o (accepted (counts q (insideCount q)))) (sym e)
 
 -- where all questions hold, each list has room
-pub room-asked : (q : QueryCall) (lent : QueryLists) → accepted (tt {0}) ≡ asked (queryQuestions q lent) (tt {0}) → queryRoom lent (pairCount (q .points)) ≡ true
+room-asked : (q : QueryCall) (lent : QueryLists) → accepted (tt {0}) ≡ asked (queryQuestions q lent) (tt {0}) → queryRoom lent (pairCount (q .points)) ≡ true
 unfolding passes queryQuestions
 room-asked q lent e =
     let space = room (queryRoom lent (pairCount (q .points))) in
@@ -36,3 +34,13 @@ room-asked q lent e =
     let (_, last) = and-parts (passes five) (passes (space ∷ [])) (sym (passes-append five (space ∷ [])) ∙ before) in
     let (enough, _) = and-parts (space .holds) true last in
     enough
+
+-- the query's answer, and the lists after it
+pub promise-kept : (q : QueryCall) (lent : QueryLists) (v : Outcome (Unit {0})) {answer : QueryAnswer} {n inside : ℕ} {after : QueryLists} → v ≡ asked (queryQuestions q lent) (tt {0}) → n ≡ allowed v (pairCount (q .points)) → inside ≡ countOf (isInside q) n → after ≡ filled q n lent → queryOutcome answer ≡ onward v (accepted (counts q inside)) → QueryPromise q lent answer after
+unfolding insideCount filled
+promise-kept q lent (accepted u) e h i a o =
+    let is = queried-is q lent e in
+    record { answers = rw (is, o, i, h); leaves = rw (is, a, h) (filled-answers q (pairCount (q .points)) lent (room-holds lent (pairCount (q .points)) (room-asked q lent e))) }
+promise-kept q lent (refused number place) e h i a o =
+    let is = queried-is q lent e in
+    record { answers = o ∙ sym is; leaves = rw (is, a, h) }

@@ -1,70 +1,9 @@
--- The parameters of a query as the definition's records, and what storing a point's answer makes of the lent lists.
-use mathlib.Core.List.{List}
-use Prim.Native.Nat.{ℕ, _+_, _*_}
-use lib.ListN.{set}
-use lib.Ieee.{Float}
-use Rattle.definition.specs.Query.{QueryCall, QueryLists}
-use Rattle.definition.specs.declared.ElementProjection.{ElementProjection}
-use Rattle.definition.specs.declared.FaceProjection.{FaceProjection}
-use Rattle.definition.specs.declared.NodeProjection.{NodeProjection}
+-- The parameters of a query as the definition's records, and how many points an outcome of its questions lets be answered.
+use Prim.Native.Nat.{ℕ}
+use Rattle.definition.specs.Questions.{Outcome, accepted, refused}
+pub use Rattle.filling.specs.Filled.{call, lists}
 
-abbrev pub call : ℕ → ℕ → List Float → List ℕ → List Float → QueryCall
-call family iterations nodes elements points = record { mesh = record { family = family; nodes = nodes; elements = elements }; iterations = iterations; points = points }
-
--- the lists in the order of `QuadMeshQueryResult`
-abbrev pub lists : List ℕ → List Float → List Float → List ℕ → List Float → List Float → List Float → List ℕ → List ℕ → List Float → List Float → List Float → QueryLists
-lists nodes nodePoints nodeDistances elements references elementPoints elementDistances faceElements faces coordinates facePoints faceDistances =
-    record {
-      nodeIndices = nodes;
-      nodePoints = nodePoints;
-      nodeDistances = nodeDistances;
-      elementIndices = elements;
-      elementReferences = references;
-      elementPoints = elementPoints;
-      elementDistances = elementDistances;
-      faceElementIndices = faceElements;
-      faceLocalFaces = faces;
-      faceCoordinates = coordinates;
-      facePoints = facePoints;
-      faceDistances = faceDistances;
-    }
-
--- two numbers of point p in their places
-abbrev pub pairStored : ℕ → Float → Float → List Float → List Float
-pairStored p x y l = set (set l (2 * p) x) (2 * p + 1) y
-
--- the lists of the nearest nodes, and with the node of point p in its places
-abbrev pub NodeLists : Type 0
-NodeLists = List ℕ × List Float × List Float
-
-abbrev pub nodeStored : NodeProjection → ℕ → NodeLists → NodeLists
-nodeStored node p (indices, points, distances) = (
-  set indices p (node .«node_index»),
-  pairStored p (node .point .x) (node .point .y) points,
-  set distances p (node .distance),
-)
-
--- the lists of the nearest elements, and with the element of point p in its places
-abbrev pub ElementLists : Type 0
-ElementLists = List ℕ × List Float × List Float × List Float
-
-abbrev pub elementStored : ElementProjection → ℕ → ElementLists → ElementLists
-elementStored element p (indices, references, points, distances) = (
-  set indices p (element .«element_index»),
-  pairStored p (element .reference .xi) (element .reference .eta) references,
-  pairStored p (element .point .x) (element .point .y) points,
-  set distances p (element .distance),
-)
-
--- the lists of the nearest faces, and with the face of point p in its places
-abbrev pub FaceLists : Type 0
-FaceLists = List ℕ × List ℕ × List Float × List Float × List Float
-
-abbrev pub faceStored : FaceProjection → ℕ → FaceLists → FaceLists
-faceStored face p (elements, faces, coordinates, points, distances) = (
-  set elements p (face .«element_index»),
-  set faces p (face .«local_face»),
-  set coordinates p (face .s),
-  pairStored p (face .point .x) (face .point .y) points,
-  set distances p (face .distance),
-)
+-- n points after an acceptance, and none after a refusal
+abbrev pub allowed : Outcome (Unit {0}) → ℕ → ℕ
+allowed (accepted v) n = n
+allowed (refused number place) n = 0

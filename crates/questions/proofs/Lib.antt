@@ -1,2 +1,3 @@
--- Laws that the proofs share.
+-- Laws that the proofs share; `Asking` is for those who ask the questions of a query, too.
+pub mod Asking
 mod NodeNumbers

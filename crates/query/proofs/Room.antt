@@ -1,42 +1,21 @@
--- The twelve lists are filled point by point: one point more is one store in each list, and no store changes a length. Assumes nothing.
-use mathlib.Core.Path.{_≡_, refl, sym, ap, _∙_}
-use mathlib.Core.Bool.{Bool, true, cond, _&&_}
-use mathlib.Core.List.{List, [], _∷_}
-use Prim.Native.Nat.{ℕ, zero, suc, _+_, _*_, _≤_, _<_}
+-- Lists with room for n points: filled point by point they come to hold the definition's answers, since each store has its place. Assumes nothing.
+use mathlib.Core.Path.{_≡_, refl, ap, _∙_}
+use mathlib.Core.Bool.{Bool, true, _&&_}
+use mathlib.Core.List.{List}
+use Prim.Native.Nat.{ℕ, zero, suc, _+_, _*_, _/_, _≤_, _<_}
 use native.Mathlib.Nat.{le-refl, le-step}
 use native.Mathlib.Numerals.{add-one}
 use native.Mathlib.Omega.{arith}
-use borrow.Author.Tests.{leb-true}
+use borrow.Author.Tests.{lt-ltb, leb-true}
 use lib.Dec.{leb}
-use lib.ListN.{length, getD, length-set}
-use lib.Ieee.{eq}
-use Rattle.definition.specs.Binary64.{plus0}
-use Rattle.definition.specs.Lists.{each, over, countOf}
-use Rattle.definition.specs.Mesh.{pairAt}
-use Rattle.definition.specs.Choice.{pointAnswer}
+use lib.ListN.{length, getD, set}
+use lib.Ieee.{Float}
+use Rattle.definition.specs.Lists.{each, over}
 use Rattle.definition.specs.Query.{QueryCall, QueryLists, queryRoom, answerAt, answersOver}
-use Rattle.definition.specs.declared.Point.{Point}
-use Rattle.definition.specs.declared.PointAnswer.{PointAnswer}
 use Rattle.definition.proofs.Lists.{over-value, over-pair, and-parts}
-use Rattle.mesh.proofs.Counting.{count-next}
-use Rattle.query.specs.Query.{lists, NodeLists, ElementLists, FaceLists, nodeStored, elementStored, faceStored}
-
--- the lengths of the lists, in their order
-abbrev pub lengths : QueryLists → List ℕ
-lengths l =
-    length (l .nodeIndices)
-    ∷ length (l .nodePoints)
-    ∷ length (l .nodeDistances)
-    ∷ length (l .elementIndices)
-    ∷ length (l .elementReferences)
-    ∷ length (l .elementPoints)
-    ∷ length (l .elementDistances)
-    ∷ length (l .faceElementIndices)
-    ∷ length (l .faceLocalFaces)
-    ∷ length (l .faceCoordinates)
-    ∷ length (l .facePoints)
-    ∷ length (l .faceDistances)
-    ∷ []
+use Rattle.answers.specs.Stored.{pairStored}
+use Rattle.filling.specs.Filled.{stored, filled}
+use Rattle.filling.proofs.Filling.{lengths, filled-lengths}
 
 -- each list has the places of point p: one, or two where the answer is a pair of coordinates
 pub record Places (l : QueryLists) (p : ℕ) : Type 0 where
@@ -54,7 +33,7 @@ pub record Places (l : QueryLists) (p : ℕ) : Type 0 where
   pub faceDistances : p < length (l .faceDistances)
 
 -- lists of the same lengths have the same places
-pub places-same : {l k : QueryLists} {p : ℕ} → lengths l ≡ lengths k → Places k p → Places l p
+places-same : {l k : QueryLists} {p : ℕ} → lengths l ≡ lengths k → Places k p → Places l p
 places-same {l} {k} e r =
     let at : (i : ℕ) → getD (lengths l) i 0 ≡ getD (lengths k) i 0 = λ i. ap (λ s. getD s i 0) e in
     record {
@@ -106,43 +85,27 @@ room-holds l n e p h =
       faceDistances = omega arith;
     }
 
--- the twelve lists in their three groups, joined again, and with an answer stored in each
-abbrev pub nodeLists : QueryLists → NodeLists
-nodeLists l = (l .nodeIndices, l .nodePoints, l .nodeDistances)
-
-abbrev pub elementLists : QueryLists → ElementLists
-elementLists l = (l .elementIndices, l .elementReferences, l .elementPoints, l .elementDistances)
-
-abbrev pub faceLists : QueryLists → FaceLists
-faceLists l = (l .faceElementIndices, l .faceLocalFaces, l .faceCoordinates, l .facePoints, l .faceDistances)
-
-abbrev pub joined : NodeLists → ElementLists → FaceLists → QueryLists
-joined (ni, np, nd) (ei, er, ep, ed) (fi, ff, fc, fp, fd) = lists ni np nd ei er ep ed fi ff fc fp fd
-
-abbrev stored : PointAnswer → ℕ → QueryLists → QueryLists
-stored a p l = joined (nodeStored (a .node) p (nodeLists l)) (elementStored (a .element) p (elementLists l)) (faceStored (a .face) p (faceLists l))
-
-stored-lengths : (a : PointAnswer) (p : ℕ) (l : QueryLists) → lengths (stored a p l) ≡ lengths l
-stored-lengths a p l = simp length-set
-
-pub answers-none : (q : QueryCall) (l : QueryLists) → l ≡ answersOver q 0 l
+answers-none : (q : QueryCall) (l : QueryLists) → l ≡ answersOver q 0 l
 unfolding answersOver each over
 answers-none q l = refl
 
--- one point more
-pub answer-at : (q : QueryCall) (n : ℕ) {target : Point} {a : PointAnswer} → a ≡ pointAnswer (q .mesh) (q .iterations) target → target ≡ pairAt (q .points) n → a ≡ answerAt q n
-answer-at q n e h = rw h at e
+-- a pair that has its places is stored
+pair-kept : (p : ℕ) (x y : Float) (l : List Float) → 2 * p + 1 < length l → pairStored p x y l ≡ set (set l (2 * p) x) (2 * p + 1) y
+pair-kept p x y l h =
+    let below : p < length l / 2 = omega arith in
+    rw (lt-ltb p (length l / 2) below)
 
-pub answers-next : (q : QueryCall) (n : ℕ) (l : QueryLists) {cur : QueryLists} {a : PointAnswer} {nodes : NodeLists} {elements : ElementLists} {faces : FaceLists} → Places l n → cur ≡ answersOver q n l → a ≡ answerAt q n →
-    nodes ≡ nodeStored (a .node) n (nodeLists cur) → elements ≡ elementStored (a .element) n (elementLists cur) → faces ≡ faceStored (a .face) n (faceLists cur) → joined nodes elements faces ≡ answersOver q (n + 1) l
+-- one point more, in lists that hold the answers of n points
+answers-next : (q : QueryCall) (n : ℕ) (l cur : QueryLists) → Places l n → Places cur n → cur ≡ answersOver q n l → stored (answerAt q n) n cur ≡ answersOver q (n + 1) l
 unfolding answersOver
-answers-next q n l r e h node element face =
+answers-next q n l cur r s e =
+    let a = answerAt q n in
     rw (
-      node,
-      element,
-      face,
+      pair-kept n (a .node .point .x) (a .node .point .y) (cur .nodePoints) (s .nodePoints),
+      pair-kept n (a .element .reference .xi) (a .element .reference .eta) (cur .elementReferences) (s .elementReferences),
+      pair-kept n (a .element .point .x) (a .element .point .y) (cur .elementPoints) (s .elementPoints),
+      pair-kept n (a .face .point .x) (a .face .point .y) (cur .facePoints) (s .facePoints),
       e,
-      h,
       over-value (λ p. answerAt q p .node .«node_index») n (l .nodeIndices) (r .nodeIndices),
       over-pair (λ p. answerAt q p .node .point .x) (λ p. answerAt q p .node .point .y) n (l .nodePoints) (r .nodePoints),
       over-value (λ p. answerAt q p .node .distance) n (l .nodeDistances) (r .nodeDistances),
@@ -157,19 +120,9 @@ answers-next q n l r e h node element face =
       over-value (λ p. answerAt q p .face .distance) n (l .faceDistances) (r .faceDistances),
     )
 
-answers-lengths : (q : QueryCall) (n : ℕ) (l : QueryLists) → ((p : ℕ) → p < n → Places l p) → lengths (answersOver q n l) ≡ lengths l
-answers-lengths q zero l r = ap lengths (sym (answers-none q l))
-answers-lengths q (suc n) l r =
-    let next = answers-next q n l (r n (le-refl (suc n))) refl refl refl refl refl in
-    ap (λ k. lengths (answersOver q k l)) (sym (add-one n)) ∙ ap lengths (sym next) ∙ stored-lengths (answerAt q n) n (answersOver q n l) ∙ answers-lengths q n l (λ p h. r p (le-step h))
-
--- lists with room for `count` points, filled with the answers of n of them
-pub filled-lengths : (q : QueryCall) {n count : ℕ} {l cur : QueryLists} → n ≤ count → ((p : ℕ) → p < count → Places l p) → cur ≡ answersOver q n l → lengths cur ≡ lengths l
-filled-lengths q {n} {l = l} h r e = ap lengths e ∙ answers-lengths q n l (λ p k. r p (omega arith))
-
--- the points inside, counted point by point
-abbrev pub isInside : QueryCall → ℕ → Bool
-isInside q p = eq (answerAt q p .element .distance) plus0
-
-pub inside-next : (q : QueryCall) (n : ℕ) {inside one : ℕ} {a : PointAnswer} → inside ≡ countOf (isInside q) n → a ≡ answerAt q n → one ≡ cond (eq (a .element .distance) plus0) 1 0 → inside + one ≡ countOf (isInside q) (n + 1)
-inside-next q n h e o = rw (count-next (isInside q) n, o, e, h)
+pub filled-answers : (q : QueryCall) (n : ℕ) (l : QueryLists) → ((p : ℕ) → p < n → Places l p) → filled q n l ≡ answersOver q n l
+unfolding filled
+filled-answers q zero l r = answers-none q l
+filled-answers q (suc n) l r =
+    let there = r n (le-refl (suc n)) in
+    answers-next q n l (filled q n l) there (places-same (filled-lengths q n l) there) (filled-answers q n l (λ p h. r p (le-step h))) ∙ ap (λ k. answersOver q k l) (add-one n)

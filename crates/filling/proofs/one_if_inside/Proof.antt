@@ -1,7 +1,8 @@
+-- `one_if_inside` meets its contract: by the comparison. Assumes nothing.
 use native.Mathlib.Omega.{arith}
 use lib.Ieee.{ofBits}
-use Rattle.query.proofs.one_if_inside.Statement.{statement}
-use Rattle.query.proofs.one_if_inside.Tie as tie
+use Rattle.filling.proofs.one_if_inside.Statement.{statement}
+use Rattle.filling.proofs.one_if_inside.Tie as tie
 
 returns : tie.Need-returns
 unfolding ofBits
