@@ -2,7 +2,9 @@
 use mathlib.Core.Path.{_≡_, refl, sym, ap, _∙_}
 use mathlib.Core.List.{List, [], _∷_, _++_}
 use Prim.Native.Nat.{ℕ, _+_, _*_, _≤_, _<_}
+use native.Mathlib.Decide.{decLt}
 use native.Mathlib.Omega.{arith}
+use borrow.Author.Tests.{lt-ltb}
 use lib.Ieee.{nan}
 use lib.ListN.{length, getD}
 use Rattle.definition.specs.Lists.{each, over}
@@ -12,7 +14,8 @@ use Rattle.definition.specs.declared.QueryAnswer.{QueryAnswer}
 use Rattle.definition.specs.declared.QueryAnswer.the-variants.{Accepted, Refused}
 use Rattle.definition.proofs.Lists.{each-same, values-length, values-at, pairs-length, pairs-first, pairs-second, over-at}
 use Rattle.definition.proofs.Passing.{asked-accepted}
-use Rattle.job.specs.Answers.{answerIn, answerListing, Few}
+use Rattle.listing.specs.Page.{Page, typed}
+use Rattle.lines.specs.Answers.{answerIn, listedOf, answerListing}
 
 -- ---- one place of a list with the answers over it
 
@@ -49,16 +52,22 @@ answers-read q lent {n} {p} l =
 
 -- ---- the promise
 
-pub promised-listing : (q : QueryCall) (lent : QueryLists) (answer : QueryAnswer) {after : QueryLists} → QueryPromise q lent answer after → queryListing q (queried q lent) ≡ answerListing answer after
-promised-listing q lent (Accepted points repeated inside) h =
-    let lists = rw (← h .answers) at (h .leaves) in
-    rw (← h .answers, lists) (ap (λ l. countsLine (record { points = points; repeated = repeated; inside = inside }) ++ l) (each-same (λ p l. ap (pointLine p) (sym (answers-read q lent l)))))
-promised-listing q lent (Refused question place) h = rw (← h .answers) refl
+listed-all : {n : ℕ} → n ≤ 256 → listedOf n ≡ n
+listed-all {n} h =
+    elim (decLt n 256) [
+      | yes l ↦ rw (lt-ltb n 256 l) refl
+      | no l ↦ let e : n ≡ 256 = omega arith in rw e refl
+    ]
 
-pub promised-few : (q : QueryCall) (lent : QueryLists) (answer : QueryAnswer) {after : QueryLists} → QueryPromise q lent answer after → length (q .points) ≤ 512 → Few answer
+-- the points of a query of at most 512 coordinates all have places
+same-listing : (q : QueryCall) (lent : QueryLists) (answer : QueryAnswer) {after : QueryLists} → length (q .points) ≤ 512 → QueryPromise q lent answer after → queryListing q (queried q lent) ≡ answerListing answer after
 unfolding queried
-promised-few q lent (Accepted points repeated inside) h l =
+same-listing q lent (Accepted points repeated inside) few h =
     let counts = asked-accepted (queryQuestions q lent) (sym (h .answers)) .1 in
     let n = ap (λ (c : QueryCounts). c .points) counts in
-    omega (arith, n)
-promised-few q lent (Refused question place) h l = tt
+    let lists = rw (← h .answers) at (h .leaves) in
+    rw (← h .answers, lists, listed-all {n = points} (omega (arith, n))) (ap (λ l. countsLine (record { points = points; repeated = repeated; inside = inside }) ++ l) (each-same (λ p l. ap (pointLine p) (sym (answers-read q lent l)))))
+same-listing q lent (Refused question place) few h = rw (← h .answers) refl
+
+pub promised-listing : (q : QueryCall) (lent : QueryLists) (answer : QueryAnswer) {after : QueryLists} (p : Page) {r : Page} → length (q .points) ≤ 512 → QueryPromise q lent answer after → r ≡ typed p (answerListing answer after) → r ≡ typed p (queryListing q (queried q lent))
+promised-listing q lent answer p few h e = e ∙ ap (typed p) (sym (same-listing q lent answer few h))

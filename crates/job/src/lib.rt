@@ -1,24 +1,16 @@
-// From a job's bytes to its listing's bytes: `answer_job`. It knows the definition, the records of a job file, the query and the lines of a listing.
+// From a job's bytes to its listing's bytes: `answer_job`. It knows the definition, the records of a job file, the query and the lines of its answer.
 ghost use mathlib.Core.Path.{_≡_};
 ghost use mathlib.Core.List.{map};
-ghost use Prim.Native.Nat.{_≤_, _<_};
+ghost use Prim.Native.Nat.{_≤_};
 ghost use lib.Ieee.{binary64, ofBits};
 ghost use lib.ListN.{length};
-ghost use Rattle.definition.specs.Lists.{each, over};
+ghost use Rattle.definition.specs.Lists.{over};
 ghost use Rattle.definition.specs.Questions.{accepted};
 ghost use Rattle.definition.specs.Query.{queried};
-ghost use Rattle.definition.specs.Job.{ownLists, pointLine, queryListing, jobListing, listing, JobPromise};
+ghost use Rattle.definition.specs.Job.{ownLists, queryListing, jobListing, listing, JobPromise};
 ghost use Rattle.listing.specs.Page.{page, typed};
-ghost use Rattle.query.specs.Query.{call, lists};
-ghost use Rattle.job.specs.Answers.{answerIn, answerListing, Few};
-use definition::ElementProjection;
-use definition::FaceProjection;
+ghost use Rattle.query.specs.Query.{call};
 use definition::JobAnswer;
-use definition::NodeProjection;
-use definition::Point;
-use definition::PointAnswer;
-use definition::QueryAnswer;
-use definition::Reference;
 use records::ReadAnswer;
 
 // ---- floats
@@ -46,154 +38,7 @@ fn read_floats(bits: &[u64], floats: &mut [f64])
     }
 }
 
-// ---- the answers of a query, as lines
-
-// The answer of point p, read from its places.
-fn answer_at(
-    p: usize,
-    nearest_node_indices: &[usize; 256],
-    nearest_node_points: &[f64; 512],
-    nearest_node_distances: &[f64; 256],
-    nearest_element_indices: &[usize; 256],
-    nearest_element_reference_points: &[f64; 512],
-    nearest_element_points: &[f64; 512],
-    nearest_element_distances: &[f64; 256],
-    nearest_face_element_indices: &[usize; 256],
-    nearest_face_local_faces: &[u8; 256],
-    nearest_face_reference_coordinates: &[f64; 256],
-    nearest_face_points: &[f64; 512],
-    nearest_face_distances: &[f64; 256],
-) -> PointAnswer
-    requires { ⌜ p < 256 ⌝ }
-    ensures { λ r. ⌜ r ≡ answerIn (lists (now («nearest_node_indices» .entry)) (now («nearest_node_points» .entry)) (now («nearest_node_distances» .entry)) (now («nearest_element_indices» .entry)) (now («nearest_element_reference_points» .entry)) (now («nearest_element_points» .entry)) (now («nearest_element_distances» .entry)) (now («nearest_face_element_indices» .entry)) (now («nearest_face_local_faces» .entry)) (now («nearest_face_reference_coordinates» .entry)) (now («nearest_face_points» .entry)) (now («nearest_face_distances» .entry))) p ⌝ }
-{
-    PointAnswer {
-        node: NodeProjection {
-            node_index: nearest_node_indices[p],
-            point: Point {
-                x: nearest_node_points[2 * p],
-                y: nearest_node_points[2 * p + 1],
-            },
-            distance: nearest_node_distances[p],
-        },
-        element: ElementProjection {
-            element_index: nearest_element_indices[p],
-            reference: Reference {
-                xi: nearest_element_reference_points[2 * p],
-                eta: nearest_element_reference_points[2 * p + 1],
-            },
-            point: Point {
-                x: nearest_element_points[2 * p],
-                y: nearest_element_points[2 * p + 1],
-            },
-            distance: nearest_element_distances[p],
-        },
-        face: FaceProjection {
-            element_index: nearest_face_element_indices[p],
-            local_face: nearest_face_local_faces[p],
-            s: nearest_face_reference_coordinates[p],
-            point: Point {
-                x: nearest_face_points[2 * p],
-                y: nearest_face_points[2 * p + 1],
-            },
-            distance: nearest_face_distances[p],
-        },
-    }
-}
-
-// The lines of the first n points, from place `start` of the output on.
-fn put_points(
-    n: usize,
-    nearest_node_indices: &[usize; 256],
-    nearest_node_points: &[f64; 512],
-    nearest_node_distances: &[f64; 256],
-    nearest_element_indices: &[usize; 256],
-    nearest_element_reference_points: &[f64; 512],
-    nearest_element_points: &[f64; 512],
-    nearest_element_distances: &[f64; 256],
-    nearest_face_element_indices: &[usize; 256],
-    nearest_face_local_faces: &[u8; 256],
-    nearest_face_reference_coordinates: &[f64; 256],
-    nearest_face_points: &[f64; 512],
-    nearest_face_distances: &[f64; 256],
-    out: &mut [u8],
-    start: usize,
-) -> usize
-    requires { ⌜ n ≤ 256 ⌝ }
-    ensures { λ r. ⌜ page (now (out .exit)) r ≡ typed (page (now (out .entry)) start) (each (λ p. pointLine p (answerIn (lists (now («nearest_node_indices» .entry)) (now («nearest_node_points» .entry)) (now («nearest_node_distances» .entry)) (now («nearest_element_indices» .entry)) (now («nearest_element_reference_points» .entry)) (now («nearest_element_points» .entry)) (now («nearest_element_distances» .entry)) (now («nearest_face_element_indices» .entry)) (now («nearest_face_local_faces» .entry)) (now («nearest_face_reference_coordinates» .entry)) (now («nearest_face_points» .entry)) (now («nearest_face_distances» .entry))) p)) n) ⌝ }
-{
-    let mut at = start;
-    let mut p: usize = 0;
-    while p < n {
-        let a = answer_at(
-            p,
-            nearest_node_indices,
-            nearest_node_points,
-            nearest_node_distances,
-            nearest_element_indices,
-            nearest_element_reference_points,
-            nearest_element_points,
-            nearest_element_distances,
-            nearest_face_element_indices,
-            nearest_face_local_faces,
-            nearest_face_reference_coordinates,
-            nearest_face_points,
-            nearest_face_distances,
-        );
-        at = listing::put_point(p, a, out, at);
-        p += 1;
-    }
-    at
-}
-
-// The listing of a query's answer and lists.
-fn put_answer(
-    answer: QueryAnswer,
-    nearest_node_indices: &[usize; 256],
-    nearest_node_points: &[f64; 512],
-    nearest_node_distances: &[f64; 256],
-    nearest_element_indices: &[usize; 256],
-    nearest_element_reference_points: &[f64; 512],
-    nearest_element_points: &[f64; 512],
-    nearest_element_distances: &[f64; 256],
-    nearest_face_element_indices: &[usize; 256],
-    nearest_face_local_faces: &[u8; 256],
-    nearest_face_reference_coordinates: &[f64; 256],
-    nearest_face_points: &[f64; 512],
-    nearest_face_distances: &[f64; 256],
-    out: &mut [u8],
-) -> usize
-    requires { ⌜ Few answer ⌝ }
-    ensures { λ r. ⌜ page (now (out .exit)) r ≡ typed (page (now (out .entry)) 0) (answerListing answer (lists (now («nearest_node_indices» .entry)) (now («nearest_node_points» .entry)) (now («nearest_node_distances» .entry)) (now («nearest_element_indices» .entry)) (now («nearest_element_reference_points» .entry)) (now («nearest_element_points» .entry)) (now («nearest_element_distances» .entry)) (now («nearest_face_element_indices» .entry)) (now («nearest_face_local_faces» .entry)) (now («nearest_face_reference_coordinates» .entry)) (now («nearest_face_points» .entry)) (now («nearest_face_distances» .entry)))) ⌝ }
-{
-    match answer {
-        QueryAnswer::Refused { question, place } => listing::put_refusal(question, place, out, 0),
-        QueryAnswer::Accepted {
-            points,
-            repeated,
-            inside,
-        } => {
-            let at = listing::put_counts(points, repeated, inside, out, 0);
-            put_points(
-                points,
-                nearest_node_indices,
-                nearest_node_points,
-                nearest_node_distances,
-                nearest_element_indices,
-                nearest_element_reference_points,
-                nearest_element_points,
-                nearest_element_distances,
-                nearest_face_element_indices,
-                nearest_face_local_faces,
-                nearest_face_reference_coordinates,
-                nearest_face_points,
-                nearest_face_distances,
-                out,
-                at,
-            )
-        }
-    }
-}
+// ---- the query
 
 // The listing of a query of at most 256 points.
 fn put_query(
@@ -239,20 +84,20 @@ fn put_query(
         &mut nearest_face_points,
         &mut nearest_face_distances,
     );
-    put_answer(
+    lines::put_answer(
         answer,
-        &nearest_node_indices,
-        &nearest_node_points,
-        &nearest_node_distances,
-        &nearest_element_indices,
-        &nearest_element_reference_points,
-        &nearest_element_points,
-        &nearest_element_distances,
-        &nearest_face_element_indices,
-        &nearest_face_local_faces,
-        &nearest_face_reference_coordinates,
-        &nearest_face_points,
-        &nearest_face_distances,
+        nearest_node_indices,
+        nearest_node_points,
+        nearest_node_distances,
+        nearest_element_indices,
+        nearest_element_reference_points,
+        nearest_element_points,
+        nearest_element_distances,
+        nearest_face_element_indices,
+        nearest_face_local_faces,
+        nearest_face_reference_coordinates,
+        nearest_face_points,
+        nearest_face_distances,
         out,
     )
 }

@@ -10,12 +10,17 @@ use Rattle.definition.proofs.Choice.{pick-more}
 pub pick-next : (d : ℕ → Float) (n : ℕ) → pick d (n + 1) ≡ cond (lt (d n) (d (pick d n))) n (pick d n)
 pick-next d n = ap (pick d) (add-one n) ∙ pick-more d n
 
--- the number of the best so far, and of the next one
-pub goes-on : (d : ℕ → Float) (n : ℕ) → lt (d n) (d (pick d n)) ≡ true → n ≡ pick d (n + 1)
-goes-on d n h = rw (pick-next d n, h)
+-- the number of the best so far, with its distance beside it
+module _ (d : ℕ → Float) (n : ℕ) {best next : ℕ} {least new kept : Float} (p : best ≡ pick d n) (q : least ≡ d best) (r : new ≡ d n) where
+  pub goes-on : lt new least ≡ true → next ≡ n → kept ≡ new → (next ≡ pick d (n + 1)) × (kept ≡ d next)
+  goes-on h i j =
+      let t : lt (d n) (d (pick d n)) ≡ true = cc (h, p, q, r) in
+      (rw (i, pick-next d n, t) refl, rw (i, j) r)
 
-pub stays : (d : ℕ → Float) (n : ℕ) → lt (d n) (d (pick d n)) ≡ false → pick d n ≡ pick d (n + 1)
-stays d n h = rw (pick-next d n, h)
+  pub stays : lt new least ≡ false → next ≡ best → kept ≡ least → (next ≡ pick d (n + 1)) × (kept ≡ d next)
+  stays h i j =
+      let t : lt (d n) (d (pick d n)) ≡ false = cc (h, p, q, r) in
+      (rw (i, p, pick-next d n, t) refl, rw (i, j) q)
 
 -- the best so far itself, of whatever has a distance
 pub chosen-more : {A : Type 0} (answer : ℕ → A) (distance : A → Float) (n : ℕ) {best next : A} → best ≡ answer (pick (λ i. distance (answer i)) n) → next ≡ answer n →

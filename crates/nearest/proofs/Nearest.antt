@@ -6,6 +6,7 @@ use Rattle.definition.specs.Choice.{pick, nodeSquare, nodeAnswer, elementAnswer
 use Rattle.definition.specs.Mesh.{Mesh, nodeCount, elementCount, gathered}
 use Rattle.definition.specs.Search.{closestReferencePoint, closestFacePoint}
 use Rattle.definition.specs.declared.Point.{Point}
+use Rattle.definition.specs.declared.GatheredElement.{GatheredElement}
 use Rattle.definition.specs.declared.NodeProjection.{NodeProjection}
 use Rattle.definition.specs.declared.ElementProjection.{ElementProjection}
 use Rattle.definition.specs.declared.FaceProjection.{FaceProjection}
@@ -13,13 +14,13 @@ use Rattle.nearest.specs.Nearest.{nearerElement, nearerFace, otherFaces}
 use Rattle.nearest.proofs.Choosing.{chosen-more}
 
 module _ (m : Mesh) (limit : ℕ) (t : Point) where
-  pub next-element : (i : ℕ) {best : ElementProjection} → best ≡ elementAnswer m limit t (pick (elementDistance m limit t) i) →
-      nearerElement best (closestReferencePoint (gathered m i) i t limit) ≡ elementAnswer m limit t (pick (elementDistance m limit t) (i + 1))
+  pub next-element : (i : ℕ) {e : GatheredElement} {best next : ElementProjection} → e ≡ gathered m i → next ≡ nearerElement best (closestReferencePoint e i t limit) → best ≡ elementAnswer m limit t (pick (elementDistance m limit t) i) →
+      next ≡ elementAnswer m limit t (pick (elementDistance m limit t) (i + 1))
   unfolding nearerElement
-  next-element i p = chosen-more (elementAnswer m limit t) (λ a. a .distance) i p refl
+  next-element i g n p = rw (n, g) (chosen-more (elementAnswer m limit t) (λ a. a .distance) i p refl)
 
   -- k faces have been met, and face f of element i is the next
-  pub next-face : (i f : ℕ) {k : ℕ} {best : FaceProjection} → f < 4 → k ≡ 4 * i + f → best ≡ faceAnswer m limit t (pick (faceDistance m limit t) k) →
+  next-face : (i f : ℕ) {k : ℕ} {best : FaceProjection} → f < 4 → k ≡ 4 * i + f → best ≡ faceAnswer m limit t (pick (faceDistance m limit t) k) →
       nearerFace best (closestFacePoint (gathered m i) i f t limit) ≡ faceAnswer m limit t (pick (faceDistance m limit t) (k + 1))
   unfolding nearerFace
   next-face i f {k} l n p =
@@ -27,12 +28,16 @@ module _ (m : Mesh) (limit : ℕ) (t : Point) where
       let r : k % 4 ≡ f = omega arith in
       chosen-more (faceAnswer m limit t) (λ a. a .distance) k p (rw (e, r))
 
-  pub next-faces : (i : ℕ) {best : FaceProjection} → best ≡ faceAnswer m limit t (pick (faceDistance m limit t) (4 * i + 1)) →
-      otherFaces best (gathered m i) i t limit ≡ faceAnswer m limit t (pick (faceDistance m limit t) (4 * (i + 1)))
+  pub first-face : (i : ℕ) {e : GatheredElement} {best next : FaceProjection} → e ≡ gathered m i → next ≡ nearerFace best (closestFacePoint e i 0 t limit) → best ≡ faceAnswer m limit t (pick (faceDistance m limit t) (4 * i)) →
+      next ≡ faceAnswer m limit t (pick (faceDistance m limit t) (4 * i + 1))
+  first-face i g n p = rw (n, g) (next-face i 0 (omega arith) (omega arith) p)
+
+  pub next-faces : (i : ℕ) {e : GatheredElement} {best next : FaceProjection} → e ≡ gathered m i → next ≡ otherFaces best e i t limit → best ≡ faceAnswer m limit t (pick (faceDistance m limit t) (4 * i + 1)) →
+      next ≡ faceAnswer m limit t (pick (faceDistance m limit t) (4 * (i + 1)))
   unfolding otherFaces
-  next-faces i p =
+  next-faces i g n p =
       let all : 4 * i + 1 + 1 + 1 + 1 ≡ 4 * (i + 1) = omega arith in
-      next-face i 3 (omega arith) (omega arith) (next-face i 2 (omega arith) (omega arith) (next-face i 1 (omega arith) (omega arith) p)) ∙ ap (λ n. faceAnswer m limit t (pick (faceDistance m limit t) n)) all
+      rw (n, g) (next-face i 3 (omega arith) (omega arith) (next-face i 2 (omega arith) (omega arith) (next-face i 1 (omega arith) (omega arith) p)) ∙ ap (λ n. faceAnswer m limit t (pick (faceDistance m limit t) n)) all)
 
   -- the three walks to their ends
   pub point-answered : {n : ℕ} {node : NodeProjection} {element : ElementProjection} {face : FaceProjection} → n ≡ elementCount m → node ≡ nodeAnswer m limit t (pick (nodeSquare m limit t) (nodeCount m)) → element ≡ elementAnswer m limit t (pick (elementDistance m limit t) n) → face ≡ faceAnswer m limit t (pick (faceDistance m limit t) (4 * n)) →

@@ -15,7 +15,7 @@ use definition::PointAnswer;
 fn node_square(nodes_rz: &[f64], node_index: usize, target: Point) -> f64
     ensures { λ r. ⌜ r ≡ nodeSquare (nodes (now («nodes_rz» .entry))) 0 target «node_index» ⌝ }
 {
-    let p = mesh::pair_at(nodes_rz, node_index);
+    let p = lists::pair_at(nodes_rz, node_index);
     root::squared_distance(p.x, p.y, target.x, target.y)
 }
 
@@ -45,7 +45,7 @@ pub fn nearest_node_projection(nodes_rz: &[f64], target: Point) -> NodeProjectio
     let node_index = nearest_node(nodes_rz, target);
     NodeProjection {
         node_index,
-        point: mesh::pair_at(nodes_rz, node_index),
+        point: lists::pair_at(nodes_rz, node_index),
         distance: root::root(node_square(nodes_rz, node_index, target)),
     }
 }

@@ -1,5 +1,5 @@
 -- `answer_point` meets its contract. The loop's invariant: the element and the face are those of the first minimum of the elements and faces met. Assumes nothing.
-use mathlib.Core.Path.{_≡_, sym, _∙_}
+use mathlib.Core.Path.{_≡_, sym}
 use Prim.Native.Nat.{_*_, _/_, _≤_, _-_}
 use native.Mathlib.Nat.{div-le-self}
 use native.Mathlib.Omega.{arith}
@@ -7,7 +7,7 @@ use borrow.Author.Needs.{needs}
 use lib.ListN.{length}
 use Rattle.definition.specs.Choice.{pick, elementAnswer, elementDistance, faceAnswer, faceDistance}
 use Rattle.definition.specs.Mesh.{Mesh, elementCount}
-use Rattle.nearest.proofs.Nearest.{next-element, next-face, next-faces, point-answered}
+use Rattle.nearest.proofs.Nearest.{next-element, first-face, next-faces, point-answered}
 use Rattle.nearest.proofs.answer_point.Statement.{statement}
 use Rattle.nearest.proofs.answer_point.Tie as tie
 
@@ -41,7 +41,7 @@ loop-holds c =
     let m : Mesh = record { family = a .family; nodes = a .nodes-rz .now; elements = a .elements .now } in (
       omega (arith, c .before .if1 .left),
       rw (s .element-coords .ensures) at (f .before .closest-reference-point .ensures),
-      rw (s .element-coords .ensures) at (c .other-faces .ensures) ∙ next-faces m (a .max-iterations) (a .target) 0 (rw (s .element-coords .ensures) at (f .closest-face-point .ensures)),
+      next-faces m (a .max-iterations) (a .target) 0 (s .element-coords .ensures) (c .other-faces .ensures) (rw (s .element-coords .ensures) at (f .closest-face-point .ensures)),
     )
 
 add-element-index : tie.Need-add-element-index Inv-loop μ-loop
@@ -56,8 +56,8 @@ loop-again c =
     let a = l .before .before .before .before .before .before .before .before .before .before .args in
     let m : Mesh = record { family = a .family; nodes = a .nodes-rz .now; elements = a .elements .now } in (
       omega arith,
-      rw (e .element-coords2 .ensures) at (c .before .before .nearer-element .ensures) ∙ next-element m (a .max-iterations) (a .target) (l .loop .element-index) (l .loop .inv .1),
-      rw (e .element-coords2 .ensures) at (c .other-faces2 .ensures) ∙ next-faces m (a .max-iterations) (a .target) (l .loop .element-index) (rw (e .element-coords2 .ensures) at (c .before .nearer-face .ensures) ∙ next-face m (a .max-iterations) (a .target) (l .loop .element-index) 0 (omega arith) (omega arith) (l .loop .inv .2)),
+      next-element m (a .max-iterations) (a .target) (l .loop .element-index) (e .element-coords2 .ensures) (c .before .before .nearer-element .ensures) (l .loop .inv .1),
+      next-faces m (a .max-iterations) (a .target) (l .loop .element-index) (e .element-coords2 .ensures) (c .other-faces2 .ensures) (first-face m (a .max-iterations) (a .target) (l .loop .element-index) (e .element-coords2 .ensures) (c .before .nearer-face .ensures) (l .loop .inv .2)),
     )
 
 returns-2 : tie.Need-returns-2 Inv-loop μ-loop

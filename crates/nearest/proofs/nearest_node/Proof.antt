@@ -1,7 +1,7 @@
 -- `nearest_node` meets its contract. The loop's invariant: the best so far is the first minimum of the nodes met, and its squared distance is kept beside it. Assumes nothing.
 use mathlib.Core.Path.{_≡_, refl}
 use mathlib.Core.Logic.{⊎-elim}
-use Prim.Native.Nat.{_≤_, _-_}
+use Prim.Native.Nat.{_+_, _≤_, _-_}
 use native.Mathlib.Omega.{arith}
 use borrow.Author.Needs.{needs}
 use Rattle.definition.specs.Choice.{pick, nodeSquare}
@@ -24,13 +24,13 @@ loop-holds c = (omega arith, refl, c .node-square .ensures)
 
 loop-again : tie.Need-loop-again Inv-loop μ-loop
 loop-again c =
-    let new = c .before .node-square2 .ensures in
     let l = c .before .before .before .loop in
     let a = c .before .before .before .before .before .before .args in
     let d = nodeSquare (nodes (a .nodes-rz .now)) 0 (a .target) in
-    let yes = goes-on d (l .node-index) in
-    let no = stays d (l .node-index) in
-    ⊎-elim (λ w. (omega arith, cc (yes (cc (w .0 .taken, new))), cc)) (λ w. (omega arith, cc (no (cc (w .0 .left, new))), cc)) (c .if1 .came)
+    let new = c .before .node-square2 .ensures in
+    let best : (c .if1 .best ≡ pick d (l .node-index + 1)) × (c .if1 .best-square ≡ d (c .if1 .best)) =
+    ⊎-elim (λ w. goes-on d (l .node-index) (l .inv .1) (l .inv .2) new (w .0 .taken) (w .1) (w .2)) (λ w. stays d (l .node-index) (l .inv .1) (l .inv .2) new (w .0 .left) (w .1) (w .2)) (c .if1 .came) in
+    (omega (arith, c .before .before .loop-test .taken), best .0, best .1)
 
 returns : tie.Need-returns Inv-loop μ-loop
 returns c =

@@ -1,11 +1,8 @@
 -- `put_answer` meets its contract: the line of a refusal, or the counts' line and the points' lines after it. Assumes nothing.
 use borrow.Author.Needs.{needs}
 use Rattle.listing.proofs.Pages.{typed-on}
-use Rattle.job.proofs.put_answer.Statement.{statement}
-use Rattle.job.proofs.put_answer.Tie as tie
-
-put-points-requires : tie.Need-put-points-requires
-put-points-requires c κs = rw (c .before .before .before .before .before .before .answer2 .given .1) at (c .before .before .before .before .before .before .before .before .before .pre)
+use Rattle.lines.proofs.put_answer.Statement.{statement}
+use Rattle.lines.proofs.put_answer.Tie as tie
 
 returns : tie.Need-returns
 returns c =
@@ -15,18 +12,20 @@ returns c =
 returns-2 : tie.Need-returns-2
 returns-2 c =
     let r = c .before .before in
-    let n = r .before .before .before .before in
-    rw (n .before .before .before .answer2 .given .1) (typed-on _ _ _ (n .put-counts .ensures) (r .put-points .ensures))
+    let n = r .before .before .before .before .before .before .before .before .before .before .before .before .before .before in
+    let q = n .before .before .before in
+    rw (q .before .before .before .answer2 .given .1) (typed-on _ _ _ (q .put-counts .ensures) (rw (n .listed .ensures .0) at (r .put-points .ensures)))
 
 pub put-answer-spec : {M : Type 1} → statement M
 put-answer-spec =
     tie.close
     (tie.spec
     (λ c. search needs)
-    (λ c κs. search needs)
+    (λ c κs. tt)
     (λ c. search needs)
-    (λ c κs. search needs)
-    put-points-requires
+    (λ c κs. tt)
+    (λ c κs. tt)
+    (λ c κs. c .before .before .before .before .before .before .before .before .before .before .before .before .before .listed .ensures .1)
     (λ c. search needs)
     returns
     (λ c. search needs)
