@@ -1,0 +1,29 @@
+-- What the calls hand back as arrays: a material as sixteen numbers, and a material times four rows of strains.
+use mathlib.Core.List.{List, _++_}
+use Prim.Native.Nat.{ℕ, _+_, _*_}
+use lib.ListN.{getD, take, replicate}
+use lib.Ieee.{Float, nan}
+use Rattle.definition.specs.Lists.{each, over}
+use Rattle.definition.specs.Binary64.{plus0}
+use Rattle.definition.specs.Query.{values}
+use Rattle.definition.specs.Rows.{fourTerms}
+
+-- the first sixteen numbers of a list, with NaN for those that it does not have
+unfoldable pub sixteen : List Float → List Float
+sixteen l = values (λ i. getD l i nan) 16
+
+-- a lent list after a call that wrote the new values from a place on
+unfoldable pub overFrom : {A : Type 0} → ℕ → List A → List A → List A
+overFrom at new old = over (take at old ++ new) old
+
+-- row i of a matrix of sixteen numbers, times column t of a matrix of four rows of n numbers
+unfoldable pub entryOf : List Float → List Float → ℕ → ℕ → ℕ → Float
+entryOf a b n i t = fourTerms a i (getD b t nan) (getD b (n + t) nan) (getD b (2 * n + t) nan) (getD b (3 * n + t) nan)
+
+-- their product, row after row
+unfoldable pub timesOf : List Float → List Float → ℕ → List Float
+timesOf a b n = each (λ i. values (entryOf a b n i) n) 4
+
+-- "material times strain matrix, four terms from +0", over zeros: the strain matrix has two columns a node
+unfoldable pub stressOf : List Float → List Float → ℕ → List Float
+stressOf material strain nodes = over (timesOf material strain (2 * nodes)) (replicate 72 plus0)

@@ -1,0 +1,2 @@
+-- What holds of questions asked in parts.
+pub mod Asking

@@ -1,0 +1,25 @@
+-- `stress_questions_at` meets its contract: questions 14 and 15, and 16 and 17 of the gathered element. Assumes nothing.
+use borrow.Author.Needs.{needs}
+use mathlib.Core.List.{[], _∷_}
+use lib.Dec.{ltb}
+use Rattle.definition.specs.Mesh.{Mesh, gathered}
+use Rattle.definition.specs.Questions.{ask, elementKnown, notInverted, offAxis}
+use Rattle.definition.proofs.Passing.{asked-then}
+use Rattle.point_questions.proofs.stress_questions_at.Statement.{statement}
+use Rattle.point_questions.proofs.stress_questions_at.Tie as tie
+
+returns : tie.Need-returns
+returns c =
+    let t = c .before .before in
+    let q = t .before in
+    let a = q .before .before .before .args in
+    let m : Mesh = record { family = a .family; nodes = a .nodes-rz .now; elements = a .elements .now } in
+    let e = gathered m (a .element-index) in
+    let known = elementKnown m (a .p) (a .element-index) in
+    let material = ask 15 (a .p) (ltb (a .material) (a .materials)) in
+    asked-then (known ∷ material ∷ []) (notInverted e (a .p) (a .reference) ∷ offAxis (a .formulation) e (a .p) (a .reference))
+    (asked-then (known ∷ []) (material ∷ []) (q .element-question .ensures) (t .then .ensures))
+    (rw (c .before .element-coords .ensures) at (c .place-questions .ensures))
+
+pub stress-questions-at-spec : {M : Type 1} → statement M
+stress-questions-at-spec = tie.close (tie.spec (λ c κs. search needs) (λ c κs. search needs) (λ c κs. search needs) (λ c κs. search needs) returns)

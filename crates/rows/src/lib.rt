@@ -1,0 +1,123 @@
+// The strain values of one point of an element, `build_b_matrix` of the Rust. It knows an element by its family and by the coordinates of its nodes: no node numbers, no triplet and no question.
+// The components are rr, zz, tt and rz (xx, yy, zz and xy), with engineering shear. Values stand by component, local node and displacement component, the order of the triplets.
+use definition::Reference;
+use definition::Structural2dFormulation;
+ghost use mathlib.Core.Path.{_≡_};
+ghost use mathlib.Core.List.{[], _∷_};
+ghost use Prim.Native.Nat.{ℕ, _+_, _*_, _≤_, _<_};
+ghost use lib.ListN.{length, getD, replicate};
+ghost use lib.Ieee.{nan};
+ghost use Rattle.definition.specs.Lists.{each, over};
+ghost use Rattle.definition.specs.Binary64.{_⊘_, plus0};
+ghost use Rattle.definition.specs.Elements.{nodesOf};
+ghost use Rattle.definition.specs.Query.{values};
+ghost use Rattle.definition.specs.Rows.{basisAt, hoop, strainEntry};
+ghost use Rattle.mapping.specs.Element.{element};
+ghost use Rattle.material.specs.Products.{overFrom};
+ghost use Rattle.rows.specs.Values.{valuesOf, entryBy};
+
+// ---- what the rows are made of, node after node
+
+// The gradients by x and by y at a reference, two a node.
+fn gradient_at(family: usize, coords: &[f64; 18], reference: Reference) -> [f64; 18]
+    ensures { λ r. ⌜ r ≡ basisAt (element family (now (coords .entry))) reference .gradient ⌝ }
+{
+    let grad_reference = elements::grad_ref(family, reference.xi, reference.eta);
+    let jac = mapping::jacobian(family, coords, &grad_reference);
+    gradients::grad_phys(family, &grad_reference, gradients::inv_j(jac))
+}
+
+// One number of each pair.
+fn column(pairs: &[f64; 18], which: usize, count: usize) -> [f64; 9]
+    requires { ⌜ (which < 2) × (count ≤ 9) ⌝ }
+    ensures { λ r. ⌜ r ≡ over (values (λ j. getD (now (pairs .entry)) (2 * j + which) nan) count) (replicate 9 plus0) ⌝ }
+{
+    let mut out = [0.0; 9];
+    let mut j: usize = 0;
+    while j < count {
+        out[j] = pairs[2 * j + which];
+        j += 1;
+    }
+    out
+}
+
+// Each shape number over the radius.
+fn over_radius(n: &[f64; 9], radius: f64, count: usize) -> [f64; 9]
+    requires { ⌜ count ≤ 9 ⌝ }
+    ensures { λ r. ⌜ r ≡ over (values (λ j. getD (now (n .entry)) j nan ⊘ radius) count) (replicate 9 plus0) ⌝ }
+{
+    let mut out = [0.0; 9];
+    let mut j: usize = 0;
+    while j < count {
+        out[j] = n[j] / radius;
+        j += 1;
+    }
+    out
+}
+
+// The tt values of the nodes: N over the radius, or 0 in plane strain.
+fn hoop_at(
+    formulation: Structural2dFormulation,
+    family: usize,
+    coords: &[f64; 18],
+    reference: Reference,
+) -> [f64; 9]
+    ensures { λ r. ⌜ ((j : ℕ) → j < nodesOf family → getD r j nan ≡ hoop formulation (basisAt (element family (now (coords .entry))) reference) j) ⌝ }
+{
+    let count = elements::nodes_per_element(family);
+    match formulation {
+        Structural2dFormulation::Axisymmetric => {
+            let n = elements::shape(family, reference.xi, reference.eta);
+            let point = mapping::map_point(family, coords, &n);
+            over_radius(&n, point.x, count)
+        }
+        Structural2dFormulation::PlaneStrain { thickness: _ } => [0.0; 9],
+    }
+}
+
+// ---- the rows
+
+// One component's row, two numbers a node, from a place on.
+fn put_pairs(first: &[f64; 9], second: &[f64; 9], count: usize, at: usize, out: &mut [f64])
+    requires { ⌜ (count ≤ 9) × (at + 2 * count ≤ length (now out)) ⌝ }
+    ensures { λ r. ⌜ now (out .exit) ≡ overFrom at (each (λ j. getD (now (first .entry)) j nan ∷ getD (now (second .entry)) j nan ∷ []) count) (now (out .entry)) ⌝ }
+{
+    let mut j: usize = 0;
+    while j < count {
+        let k = at + 2 * j;
+        out[k] = first[j];
+        out[k + 1] = second[j];
+        j += 1;
+    }
+}
+
+// The four rows, over zeros, from the gradients by x and by y and the tt values.
+fn strain_rows(by_x: &[f64; 9], by_y: &[f64; 9], hoop: &[f64; 9], count: usize) -> [f64; 72]
+    requires { ⌜ count ≤ 9 ⌝ }
+    ensures { λ r. ⌜ r ≡ over (valuesOf (entryBy (now («by_x» .entry)) (now («by_y» .entry)) (now (hoop .entry))) count) (replicate 72 plus0) ⌝ }
+{
+    let none = [0.0; 9];
+    let mut out = [0.0; 72];
+    put_pairs(by_x, &none, count, 0, &mut out);
+    put_pairs(&none, by_y, count, 2 * count, &mut out);
+    put_pairs(hoop, &none, count, 4 * count, &mut out);
+    put_pairs(by_y, by_x, count, 6 * count, &mut out);
+    out
+}
+
+// The strain values of a point: the value of component i, local node j and displacement component d stands at (i * F + j) * 2 + d. The places past the family's nodes hold 0.
+pub fn strain_values(
+    formulation: Structural2dFormulation,
+    family: usize,
+    coords: &[f64; 18],
+    reference: Reference,
+) -> [f64; 72]
+    ensures { λ r. ⌜ r ≡ over (valuesOf (strainEntry formulation (basisAt (element family (now (coords .entry))) reference)) (nodesOf family)) (replicate 72 plus0) ⌝ }
+{
+    let count = elements::nodes_per_element(family);
+    let gradient = gradient_at(family, coords, reference);
+    let by_x = column(&gradient, 0, count);
+    let by_y = column(&gradient, 1, count);
+    let hoop = hoop_at(formulation, family, coords, reference);
+    strain_rows(&by_x, &by_y, &hoop, count)
+}

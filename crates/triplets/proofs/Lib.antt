@@ -1,0 +1,2 @@
+-- What holds of triplets put one after the other.
+pub mod Strips
