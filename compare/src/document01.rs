@@ -64,7 +64,7 @@ pub fn accept(job: &[u8]) -> Result<Query, Refusal> {
     Ok(query)
 }
 
-fn ask(passes: bool, number: u8, place: usize) -> Result<(), Refusal> {
+pub fn ask(passes: bool, number: u8, place: usize) -> Result<(), Refusal> {
     if passes { Ok(()) } else { Err(Refusal { number, place }) }
 }
 
@@ -202,7 +202,7 @@ fn line(point: usize, answer: &Answer) -> String {
 }
 
 /// NaNs all print as one value; every other number by its bits, the sign of a zero too.
-fn digits(number: f64) -> String {
+pub fn digits(number: f64) -> String {
     if number.is_nan() { "nan".into() } else { format!("{:016x}", number.to_bits()) }
 }
 

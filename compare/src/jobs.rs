@@ -14,13 +14,13 @@
 
 mod choices;
 mod files;
-mod mesh;
-mod numbers;
+pub mod mesh;
+pub mod numbers;
 mod probes;
-mod random;
+pub mod random;
 mod refusals;
 mod searches;
-mod shapes;
+pub mod shapes;
 
 use crate::document01::accept;
 use crate::wrong_turns::{Turn, tells};

@@ -1,12 +1,18 @@
-//! Runs the published Rust unchanged and writes a stored list of jobs with the answers that follow from it.
+//! Runs the published Rust unchanged and writes two stored lists, of jobs and of operator cases, with the answers
+//! that follow from it.
 
 #![forbid(unsafe_code)]
 
+mod cases;
 mod document01;
 mod jobs;
+mod operator_turns;
+mod operators;
 mod published;
+mod rounding;
 mod wrong_turns;
 
+use cases::Case;
 use jobs::Job;
 // The published files find each other by these paths.
 use published::{mesh, physics};
@@ -21,6 +27,10 @@ compare answer      reads a job file from standard input and writes its listing
 compare write DIR   writes the stored list: the jobs to DIR/stdin, their listings to DIR/stdout
 compare kinds       prints how many jobs of each kind the list has
 compare turns       prints which jobs tell each wrong turn (half a minute)
+
+compare write-operators DIR   writes the list of operator cases: the cases to DIR/stdin, their texts to DIR/stdout
+compare operator-kinds        prints how many cases of each kind the list has
+compare operator-turns        prints which cases tell each wrong turn
 ";
 
 fn main() -> io::Result<ExitCode> {
@@ -30,6 +40,9 @@ fn main() -> io::Result<ExitCode> {
         ["write", folder] => write(Path::new(folder))?,
         ["kinds"] => kinds(),
         ["turns"] => turns(),
+        ["write-operators", folder] => write_operators(Path::new(folder))?,
+        ["operator-kinds"] => operator_kinds(),
+        ["operator-turns"] => operator_turns(),
         _ => {
             eprint!("{USAGE}");
             return Ok(ExitCode::FAILURE);
@@ -46,17 +59,28 @@ fn answer() -> io::Result<()> {
 
 fn write(folder: &Path) -> io::Result<()> {
     let list = jobs::all();
-    fs::create_dir_all(folder)?;
-    let framed: Vec<Vec<u8>> = list.iter().map(framed).collect();
-    fs::write(folder.join("stdin"), framed.concat())?;
-    let listings: Vec<Vec<u8>> = list.iter().map(|job| document01::answer(&job.bytes)).collect();
-    fs::write(folder.join("stdout"), listings.concat())
+    let jobs = list.iter().map(|job| framed(&job.bytes)).collect::<Vec<_>>();
+    let listings = list.iter().map(|job| document01::answer(&job.bytes)).collect::<Vec<_>>();
+    write_list(folder, &jobs.concat(), &listings.concat())
 }
 
-/// A job's length in four bytes, the least first, then the job.
-fn framed(job: &Job) -> Vec<u8> {
-    let length = u32::try_from(job.bytes.len()).expect("a job is short");
-    [&length.to_le_bytes()[..], &job.bytes].concat()
+fn write_operators(folder: &Path) -> io::Result<()> {
+    let list = cases::all();
+    let calls = list.iter().map(|case| framed(&case.call.bytes())).collect::<Vec<_>>();
+    let texts = list.iter().map(|case| operators::answer(&case.call)).collect::<Vec<_>>();
+    write_list(folder, &calls.concat(), &texts.concat())
+}
+
+fn write_list(folder: &Path, stdin: &[u8], stdout: &[u8]) -> io::Result<()> {
+    fs::create_dir_all(folder)?;
+    fs::write(folder.join("stdin"), stdin)?;
+    fs::write(folder.join("stdout"), stdout)
+}
+
+/// The length of a job or a case in four bytes, the least first, then its bytes.
+fn framed(bytes: &[u8]) -> Vec<u8> {
+    let length = u32::try_from(bytes.len()).expect("jobs and cases are short");
+    [&length.to_le_bytes()[..], bytes].concat()
 }
 
 fn kinds() {
@@ -82,6 +106,34 @@ fn turns() {
         list.iter().map(|job| wrong_turns::answer(&job.bytes, Turn::Straight)).collect();
     for turn in Turn::all() {
         let tells = |at: &usize| wrong_turns::answer(&list[*at].bytes, turn) != straight[*at];
+        let telling: Vec<usize> = (0..list.len()).filter(tells).collect();
+        println!("{turn:?}, told by {}: {telling:?}", telling.len());
+    }
+}
+
+fn operator_kinds() {
+    let list = cases::all();
+    println!("{:>5} {:>5} {:>8} {:>7} {:>7}  kind", "first", "cases", "accepted", "stdin", "stdout");
+    let mut first = 0;
+    for of_kind in list.chunk_by(|a, b| a.kind == b.kind) {
+        print_case_row(first, of_kind, of_kind[0].kind);
+        first += of_kind.len();
+    }
+    print_case_row(0, &list, "all of them");
+}
+
+fn print_case_row(first: usize, cases: &[Case], name: &str) {
+    let texts: Vec<Vec<u8>> = cases.iter().map(|case| operators::answer(&case.call)).collect();
+    let accepted = texts.iter().filter(|text| text.starts_with(b"built")).count();
+    let stdin: usize = cases.iter().map(|case| framed(&case.call.bytes()).len()).sum();
+    let stdout: usize = texts.iter().map(Vec::len).sum();
+    println!("{first:5} {:5} {accepted:8} {stdin:7} {stdout:7}  {name}", cases.len());
+}
+
+fn operator_turns() {
+    let list = cases::all();
+    for turn in operator_turns::Turn::all() {
+        let tells = |at: &usize| operator_turns::tells(&list[*at].call, turn);
         let telling: Vec<usize> = (0..list.len()).filter(tells).collect();
         println!("{turn:?}, told by {}: {telling:?}", telling.len());
     }

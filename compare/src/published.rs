@@ -5,10 +5,15 @@
 //! take from modules not published to us.
 
 use crate::document01::{Answer, Query};
+use crate::operator_turns::material::{Matrix, matrices, oriented};
+use crate::operators::{Built, Call, Formulation, Operator, Pairs, Triplet};
+use mesh::elements::quad2d::mapping;
 use mesh::quad2d::{
-    Quad4ReferenceElement, Quad9ReferenceElement, QuadMeshQueryResult, QuadMeshView2d, QuadReferenceElement,
-    query_quad_mesh,
+    Quad4ReferenceElement, Quad9ReferenceElement, QuadMeshQueryResult, QuadMeshSparseOperator,
+    QuadMeshView2d, QuadReferenceElement, quad_mesh_interpolation_operator, quad_mesh_strain_operator,
+    quad_mesh_stress_operator, query_quad_mesh,
 };
+use physics::solenoid_stress::Structural2dFormulation;
 
 macro_rules! published {
     ($name:literal) => {
@@ -87,6 +92,102 @@ fn answer_of(result: &QuadMeshQueryResult<f64>, point: usize) -> Answer {
         s: result.nearest_face_reference_coordinates[point],
         face_distance: result.nearest_face_distances[point],
     }
+}
+
+// ---- the operators
+
+/// What the Rust builds for a call, or why it refuses.
+pub fn operator(call: &Call) -> Result<Built, String> {
+    let built = match call.family {
+        4 => operator_in::<Quad4ReferenceElement, 4, 8>(call),
+        9 => operator_in::<Quad9ReferenceElement, 9, 18>(call),
+        family => panic!("document 01 refuses family {family}"),
+    }?;
+    let positions = built.rows.into_iter().zip(built.cols);
+    let triplet = |((row, column), value)| Triplet { row, column, value };
+    let triplets = positions.zip(built.vals).map(triplet).collect();
+    Ok(Built { rows: built.nrow, columns: built.ncol, triplets })
+}
+
+fn operator_in<E: QuadReferenceElement<F>, const F: usize, const DOF: usize>(
+    call: &Call,
+) -> Result<QuadMeshSparseOperator<f64>, String> {
+    let nodes = pairs(&call.nodes);
+    let elements: Vec<[usize; F]> = call.elements.chunks_exact(F).map(numbers).collect();
+    let mesh = QuadMeshView2d { nodes_rz: &nodes, elements: &elements };
+    let indices = numbers_of(&call.element_indices);
+    let points = pairs(&call.reference_points);
+    let formulation = formulation(call);
+    match call.operator {
+        Operator::Interpolation => quad_mesh_interpolation_operator::<E, f64, F>(mesh, &indices, &points),
+        Operator::Strain => quad_mesh_strain_operator::<E, F, DOF>(mesh, &indices, &points, formulation),
+        Operator::Stress => {
+            let Materials { ids, table, angles } = materials(call);
+            let angles = angles.as_deref();
+            quad_mesh_stress_operator::<E, F, DOF>(mesh, &indices, &points, &ids, &table, angles, formulation)
+        }
+    }
+}
+
+fn formulation(call: &Call) -> Structural2dFormulation {
+    match call.formulation {
+        Formulation::Axisymmetric => Structural2dFormulation::Axisymmetric,
+        Formulation::PlaneStrain => Structural2dFormulation::PlaneStrain { thickness: call.thickness },
+    }
+}
+
+fn pairs(list: &[f64]) -> Vec<[f64; 2]> {
+    list.chunks_exact(2).map(|pair| [pair[0], pair[1]]).collect()
+}
+
+fn numbers_of(list: &[u32]) -> Vec<usize> {
+    list.iter().map(|&number| number as usize).collect()
+}
+
+/// What the Rust's stress takes of the materials.
+struct Materials {
+    ids: Vec<usize>,
+    table: Vec<Matrix>,
+    angles: Option<Vec<f64>>,
+}
+
+/// The Rust takes angles. Pairs that no angle has are turned by our own reading of `rotate_material_in_plane`,
+/// one material an element, and the Rust is given the turned materials and no angles.
+fn materials(call: &Call) -> Materials {
+    let ids = numbers_of(&call.material_ids);
+    let table = matrices(&call.material_table);
+    match &call.pairs {
+        Pairs::NotGiven(_) => Materials { ids, table, angles: None },
+        Pairs::OfAngles(angles) => Materials { ids, table, angles: Some(angles.clone()) },
+        Pairs::Any(numbers) => {
+            let material = |&id: &usize| table.get(id).copied().unwrap_or_default();
+            let turned = ids.iter().zip(pairs(numbers)).map(|(id, pair)| oriented(&material(id), pair));
+            Materials { ids: (0..ids.len()).collect(), table: turned.collect(), angles: None }
+        }
+    }
+}
+
+/// What questions 16 and 17 ask about at a point: the determinant and the radius, as the Rust computes them.
+pub fn determinant_and_radius(call: &Call, point: usize) -> (f64, f64) {
+    match call.family {
+        4 => determinant_and_radius_in::<Quad4ReferenceElement, 4>(call, point),
+        9 => determinant_and_radius_in::<Quad9ReferenceElement, 9>(call, point),
+        family => panic!("document 01 refuses family {family}"),
+    }
+}
+
+fn determinant_and_radius_in<E: QuadReferenceElement<F>, const F: usize>(
+    call: &Call,
+    point: usize,
+) -> (f64, f64) {
+    let element = call.element_indices[point] as usize;
+    let nodes = pairs(&call.nodes);
+    let row: [usize; F] = numbers(&call.elements[F * element..]);
+    let coordinates = row.map(|node| nodes[node]);
+    let [xi, eta] = pairs(&call.reference_points)[point];
+    let jacobian = mapping::jacobian(&coordinates, &E::grad_ref(xi, eta));
+    let [radius, _] = mapping::map_point(&coordinates, &E::shape(xi, eta));
+    (mapping::det_j(&jacobian), radius)
 }
 
 #[cfg(test)]

@@ -3,9 +3,10 @@
 //! Without a turn it must agree with the published Rust on every job. With one it shows what the list is worth:
 //! a job tells a wrong turn when it changes the job's listing. The generator keeps jobs by that.
 
-mod element;
+pub mod element;
 
 use crate::document01::{Answer, Query, answer_by};
+use crate::rounding;
 use element::{Element, Projection};
 
 /// What is chosen by "replace only on smaller".
@@ -26,6 +27,7 @@ pub enum Turn {
 
     // A multiply-add that rounds once. Of a sum of two products the first or the second may be fused. (A face's
     // tangent is not here: its products are with 0 and ±1, so they are exact.)
+    FusedBubble,
     FusedPoint,
     FusedJacobian,
     FusedDistanceFirst,
@@ -92,6 +94,7 @@ impl Turn {
     pub fn all() -> Vec<Turn> {
         use Turn::*;
         let mut turns = vec![
+            FusedBubble,
             FusedPoint,
             FusedJacobian,
             FusedDistanceFirst,
@@ -187,18 +190,12 @@ fn nearest_to(point: [f64; 2], query: &Query, elements: &[Element], turn: Turn) 
 impl Turn {
     /// a × b + c × d, each operation rounded once. The turns in `fusing` fuse the first and the second product.
     fn two_products(self, fusing: [Turn; 2], a: f64, b: f64, c: f64, d: f64) -> f64 {
-        if self == fusing[0] {
-            a.mul_add(b, c * d)
-        } else if self == fusing[1] {
-            c.mul_add(d, a * b)
-        } else {
-            a * b + c * d
-        }
+        rounding::two_products(fusing.map(|turn| self == turn), a, b, c, d)
     }
 
     /// sum + a × b, each operation rounded once.
     fn add_product(self, fused: Turn, sum: f64, a: f64, b: f64) -> f64 {
-        if self == fused { a.mul_add(b, sum) } else { sum + a * b }
+        rounding::add_product(self == fused, sum, a, b)
     }
 
     fn squared_distance(self, from: [f64; 2], to: [f64; 2]) -> f64 {

@@ -15,11 +15,11 @@ const NANS: [u64; 5] = [
     0x7fff_ffff_ffff_ffff,
 ];
 
-fn nan(random: &mut Random) -> f64 {
+pub fn nan(random: &mut Random) -> f64 {
     f64::from_bits(random.pick(&NANS))
 }
 
-fn infinity(random: &mut Random) -> f64 {
+pub fn infinity(random: &mut Random) -> f64 {
     random.pick(&[f64::INFINITY, f64::NEG_INFINITY])
 }
 
@@ -221,7 +221,7 @@ fn wild_job(random: &mut Random, family: u8, limit: u16) -> Vec<u8> {
 }
 
 /// Mostly ordinary: one extraordinary number often decides a whole answer.
-fn wild_pair(random: &mut Random) -> Pair {
+pub fn wild_pair(random: &mut Random) -> Pair {
     let mut pair = few_digits(random.pair(-2.0, 2.0));
     if random.below(6) == 0 {
         let number = wild_number(random);
@@ -230,7 +230,7 @@ fn wild_pair(random: &mut Random) -> Pair {
     pair
 }
 
-fn wild_number(random: &mut Random) -> f64 {
+pub fn wild_number(random: &mut Random) -> f64 {
     match random.below(8) {
         0 => nan(random),
         1 => infinity(random),

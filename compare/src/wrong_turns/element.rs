@@ -59,6 +59,11 @@ impl Element {
         Element { turn, limit: turn.steps(query.limit), coordinates }
     }
 
+    /// An element that is mapped and never searched.
+    pub fn mapped(coordinates: Vec<[f64; 2]>, turn: Turn) -> Element {
+        Element { turn, limit: 0, coordinates }
+    }
+
     /// The one-dimensional factor of a node at `end` (-1, 0 or 1) and its derivative.
     fn factor(&self, end: i8, x: f64) -> (f64, f64) {
         let sign = f64::from(end);
@@ -67,7 +72,7 @@ impl Element {
         } else if end == 0 && self.turn == Turn::BubbleFactored {
             ((1.0 - x) * (1.0 + x), -2.0 * x)
         } else if end == 0 {
-            (1.0 - x * x, -2.0 * x)
+            (self.turn.add_product(Turn::FusedBubble, 1.0, -x, x), -2.0 * x)
         } else {
             (0.5 * x * (x + sign), x + 0.5 * sign)
         }
@@ -79,7 +84,7 @@ impl Element {
     }
 
     /// N of one node, and its two derivatives.
-    fn shape(&self, node: usize, [xi, eta]: [f64; 2]) -> (f64, [f64; 2]) {
+    pub fn shape(&self, node: usize, [xi, eta]: [f64; 2]) -> (f64, [f64; 2]) {
         let (along_xi, slope_xi) = self.factor(NODE_AT[node][0], xi);
         let (along_eta, slope_eta) = self.factor(NODE_AT[node][1], eta);
         let value = self.scale() * along_xi * along_eta;
@@ -92,7 +97,7 @@ impl Element {
     }
 
     /// The point and the Jacobian at a reference.
-    fn map(&self, reference: [f64; 2]) -> ([f64; 2], [[f64; 2]; 2]) {
+    pub fn map(&self, reference: [f64; 2]) -> ([f64; 2], [[f64; 2]; 2]) {
         let mut point = [0.0; 2];
         let mut jacobian = [[0.0; 2]; 2];
         for node in (0..self.coordinates.len()).map(|at| self.term(at)) {
