@@ -2,6 +2,7 @@
 // A mesh is three parameters: its family, 4 or 9; `nodes_rz`, two coordinates a node; and `elements`, the connectivity, F node numbers an element.
 // `element_indices` names the element of each point, and `reference_points` holds two reference coordinates a point.
 ghost use mathlib.Core.Path.{_≡_};
+ghost use mathlib.Core.List.{[]};
 ghost use Prim.Native.Nat.{_≤_};
 ghost use lib.ListN.{length};
 ghost use Rattle.definition.specs.Operators.{InterpolationPromise};
@@ -14,7 +15,6 @@ use definition::Verdict;
 // The triplets of interpolation, from the lists' first place on; their number.
 fn put_interpolation(
     family: usize,
-    nodes_rz: &[f64],
     elements: &[u32],
     element_indices: &[usize],
     reference_points: &[f64],
@@ -23,7 +23,7 @@ fn put_interpolation(
     values: &mut [f64],
 ) -> usize
     requires { ⌜ length (now («element_indices»)) ≤ 1000000 ⌝ }
-    ensures { λ r. ⌜ (let q = interpolationCall family (now («nodes_rz» .entry)) (now (elements .entry)) (now («element_indices» .entry)) (now («reference_points» .entry)) in
+    ensures { λ r. ⌜ (let q = interpolationCall family [] (now (elements .entry)) (now («element_indices» .entry)) (now («reference_points» .entry)) in
         strip (now (rows .exit)) (now (columns .exit)) (now (values .exit)) r ≡ written (strip (now (rows .entry)) (now (columns .entry)) (now (values .entry)) 0) (tripletsTill q 1 1 (shapeValue q) (length (now («element_indices» .entry))))) ⌝ }
 {
     let mut at: usize = 0;
@@ -71,7 +71,6 @@ pub fn quad_mesh_interpolation_operator(
     }
     let triplets = put_interpolation(
         family,
-        nodes_rz,
         elements,
         element_indices,
         reference_points,

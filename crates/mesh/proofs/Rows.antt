@@ -1,6 +1,6 @@
 -- The rows of the connectivity: row e is F places from F * e on, as far as the list goes. Assumes nothing.
 use mathlib.Core.Path.{_≡_, refl, _∙_}
-use mathlib.Core.List.{List, []}
+use mathlib.Core.List.{[]}
 use Prim.Native.Nat.{ℕ, _+_, _*_, _-_, _/_, _≤_, _<_, min}
 use native.Mathlib.Nat.{mul-suc, mul-le-mul-left, mul-div-le, div-le-self}
 use native.Mathlib.Omega.{arith}

@@ -3,13 +3,11 @@
 // Element and node numbers start at 0. Every call has an answer for every list and every number.
 ghost use mathlib.Core.Path.{_≡_};
 ghost use mathlib.Core.List.{[]};
-ghost use Prim.Native.Nat.{_+_, _*_, _^_, _≤_, _<_, min};
+ghost use Prim.Native.Nat.{_+_, _*_, _<_};
 ghost use lib.Dec.{ltb};
 ghost use lib.ListN.{length, getD, drop};
-ghost use lib.Ieee.{nan};
-ghost use Rattle.definition.specs.Mesh.{pairAt, elementNodes, gathered, isIn, distinct, repeatedCount};
+ghost use Rattle.definition.specs.Mesh.{elementNodes, gathered, isIn, distinct, repeatedCount};
 use definition::GatheredElement;
-use definition::Point;
 
 // ---- one element
 

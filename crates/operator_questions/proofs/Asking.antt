@@ -1,13 +1,12 @@
 -- The questions of an operator in two parts, on the lists and of the points: a refusal by the first part is the answer, and after a pass the second part's answer is. Assumes nothing.
-use mathlib.Core.Path.{_≡_, refl}
-use mathlib.Core.Bool.{Bool}
-use mathlib.Core.List.{List, [], _∷_, _++_, append-assoc}
+use mathlib.Core.Path.{_≡_}
+use mathlib.Core.List.{List, _++_, append-assoc}
 use Prim.Native.Nat.{ℕ, _*_}
 use lib.ListN.{length}
 use Rattle.definition.specs.Lists.{each}
 use Rattle.definition.specs.Elements.{nodesOf}
-use Rattle.definition.specs.Questions.{Question, Outcome, accepted, refused, asked, room, nodeNumbers, numbersMatch, materialsWhole, materialsMatch, pairsMatch}
-use Rattle.definition.specs.Operators.{InterpolationCall, StrainCall, StressCall, TripletLists, tripletRoom, meshQuestions, interpolationQuestions, strainQuestions, stressQuestions}
+use Rattle.definition.specs.Questions.{Question, Outcome, accepted, refused, asked}
+use Rattle.definition.specs.Operators.{InterpolationCall, StrainCall, StressCall, TripletLists, tripletRoom, interpolationQuestions, strainQuestions, stressQuestions}
 use Rattle.definition.proofs.Passing.{asked-append}
 use Rattle.point_questions.specs.Points.{interpolationAsked, strainAsked, stressAsked}
 use Rattle.operator_questions.specs.Calls.{listed, materialListed}

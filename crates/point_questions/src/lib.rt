@@ -3,7 +3,7 @@
 ghost use mathlib.Core.Path.{_≡_};
 ghost use mathlib.Core.List.{[], _∷_};
 ghost use lib.Dec.{ltb};
-ghost use lib.ListN.{length, getD};
+ghost use lib.ListN.{length};
 ghost use Rattle.definition.specs.Lists.{each};
 ghost use Rattle.definition.specs.Mapping.{detJ, pointAt, jacobianAt};
 ghost use Rattle.definition.specs.Mesh.{Mesh, gathered};

@@ -1,5 +1,5 @@
 -- What a query comes to keeps its promise: by what its questions come to. After a refusal no point is answered, and after an acceptance the lists have room. Assumes nothing.
-use mathlib.Core.Path.{_≡_, refl, sym, ap, _∙_}
+use mathlib.Core.Path.{_≡_, sym, ap, _∙_}
 use mathlib.Core.Bool.{true}
 use mathlib.Core.List.{[], _∷_}
 use Prim.Native.Nat.{ℕ}

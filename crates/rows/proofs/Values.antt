@@ -7,7 +7,6 @@ use lib.ListN.{length, getD}
 use lib.Ieee.{Float, nan}
 use Rattle.definition.specs.Lists.{each, over}
 use Rattle.definition.specs.Query.{values}
-use Rattle.definition.specs.Rows.{pointTriplets}
 use Rattle.definition.proofs.Lists.{each-same, each-length, each-at, values-length, values-at, over-at}
 use Rattle.material.proofs.Writing.{part-fits}
 use Rattle.rows.specs.Values.{valuesOf}
@@ -38,9 +37,3 @@ module _ (value : ℕ → ℕ → ℕ → Float) {F i j d : ℕ} (a : i < 4) (b 
 
   pub written-at : (old : List Float) → getD (over (valuesOf value F) old) (2 * F * i + (2 * j + d)) nan ≡ value i j d
   written-at old = over-at (valuesOf value F) old nan (rw (values-of-length value F) (omega (arith, part-fits (2 * F) a))) ∙ values-of-at
-
--- the triplets of a point, from the values where they stand
-pub triplets-read : (value : ℕ → ℕ → ℕ → Float) (F : ℕ) (node : ℕ → ℕ) (p : ℕ) (old : List Float) →
-    pointTriplets 4 2 F node (λ i j d. getD (over (valuesOf value F) old) (2 * F * i + (2 * j + d)) nan) p ≡ pointTriplets 4 2 F node value p
-unfolding pointTriplets
-triplets-read value F node p old = each-same (λ i a. each-same (λ j b. each-same (λ d c. rw (written-at value a b c old))))

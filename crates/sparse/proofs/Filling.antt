@@ -1,5 +1,5 @@
 -- The triplets of one point more: by what the calls before the writing ensure. Assumes nothing.
-use mathlib.Core.Path.{_≡_, refl, sym, ap, _∙_}
+use mathlib.Core.Path.{_≡_, refl, ap}
 use mathlib.Core.Bool.{true, false, cond}
 use mathlib.Core.List.{List, [], _∷_}
 use Prim.Native.Nat.{ℕ, zero, suc, _+_, _*_, _≤_}
@@ -46,6 +46,13 @@ module _ (q : InterpolationCall) (s : Strip) (p : ℕ) {t u : Strip} {nodes : Li
       u ≡ written t (pointTriplets 4 2 (nodesOf (q .mesh .family)) (λ j. getD nodes j 0) (λ i j d. getD entries (2 * nodesOf (q .mesh .family) * i + 2 * j + d) nan) p) → u ≡ written s (tripletsTill q 4 2 value (p + 1))
   component-next value before entries-is put =
       written-each s _ p before (rw (row, row-alone (q .mesh) (elementAt q p), entries-is, entries-are (nodesOf (q .mesh .family)) p (λ j. getD (elementNodes (q .mesh) (elementAt q p)) j 0) (value p)) at put)
+
+-- the triplets of interpolation do not depend on the nodes' coordinates
+pub shapes-alone : (q : InterpolationCall) (n : ℕ) →
+    let bare : InterpolationCall = record { mesh = record { family = q .mesh .family; nodes = []; elements = q .mesh .elements }; elementIndices = q .elementIndices; referencePoints = q .referencePoints } in
+    tripletsTill bare 1 1 (shapeValue bare) n ≡ tripletsTill q 1 1 (shapeValue q) n
+unfolding elementNodes
+shapes-alone q n = refl
 
 -- ---- how many there are
 

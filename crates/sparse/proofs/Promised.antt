@@ -1,20 +1,19 @@
 -- A refused operator and an accepted one keep the operator's promise: by what its questions come to. Assumes nothing.
 use mathlib.Core.Path.{_≡_, refl, sym, ap, _∙_}
 use mathlib.Core.Bool.{true, _&&_}
-use mathlib.Core.List.{List, [], _∷_}
-use Prim.Native.Nat.{ℕ, _+_, _*_, _≤_}
+use mathlib.Core.List.{List, _∷_}
+use Prim.Native.Nat.{ℕ, _≤_}
 use native.Mathlib.Omega.{arith}
 use borrow.Author.Tests.{leb-true}
 use lib.Dec.{leb}
 use lib.ListN.{length}
 use lib.Ieee.{Float}
 use Rattle.definition.specs.Questions.{Question, Outcome, accepted, refused, asked, onward, whole, referencesWhole}
-use Rattle.definition.specs.Operators.{Operator, TripletLists, tripletRoom, operated, tripletsOver, OperatorPromise}
-use Rattle.definition.specs.Rows.{Triplet}
+use Rattle.definition.specs.Operators.{Operator, TripletLists, tripletRoom, operated, OperatorPromise}
 use Rattle.definition.specs.declared.OperatorAnswer.the-variants.{Built, Refused}
 use Rattle.definition.proofs.Lists.{and-parts}
 use Rattle.definition.proofs.Passing.{passes, asked-accepted, asked-value}
-use Rattle.triplets.specs.Strip.{Strip, strip, written}
+use Rattle.triplets.specs.Strip.{Strip, written}
 use Rattle.triplets.proofs.Strips.{Room, written-over}
 
 module _ (o : Operator) (lent : TripletLists) where

@@ -1,7 +1,7 @@
 -- The triplets of an operator, and its values as the code lists them.
 use mathlib.Core.List.{List}
 use Prim.Native.Nat.{ℕ}
-use lib.ListN.{length, getD, replicate}
+use lib.ListN.{getD, replicate}
 use lib.Ieee.{Float, nan}
 use Rattle.definition.specs.Binary64.{plus0}
 use Rattle.definition.specs.Elements.{nodesOf, shapeOf}

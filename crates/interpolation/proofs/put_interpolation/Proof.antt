@@ -1,5 +1,6 @@
 -- `put_interpolation` meets its contract. The loop's invariant: the triplets of the points met have been put. The measure is what is left of the points. Assumes nothing.
 use mathlib.Core.Path.{_≡_, refl, ap}
+use mathlib.Core.List.{[]}
 use Prim.Native.Nat.{ℕ, _-_, _≤_}
 use native.Mathlib.Omega.{arith}
 use borrow.Author.Needs.{needs}
@@ -15,21 +16,21 @@ use Rattle.interpolation.proofs.put_interpolation.Statement.{statement}
 use Rattle.interpolation.proofs.put_interpolation.Tie as tie
 
 abbrev Inv-loop : tie.InvT-loop
-Inv-loop family nodes-rz elements element-indices reference-points rows₀ columns₀ values₀ at₀ p₀ rows columns values at p =
-    (let q = interpolationCall family nodes-rz elements element-indices reference-points in
+Inv-loop family elements element-indices reference-points rows₀ columns₀ values₀ at₀ p₀ rows columns values at p =
+    (let q = interpolationCall family [] elements element-indices reference-points in
     (p ≤ length element-indices) × (strip rows columns values at ≡ written (strip rows₀ columns₀ values₀ 0) (tripletsTill q 1 1 (shapeValue q) p)))
 
 abbrev μ-loop : tie.MeasureT-loop
-μ-loop family nodes-rz elements element-indices reference-points rows₀ columns₀ values₀ at₀ p₀ rows columns values at p = length element-indices - p
+μ-loop family elements element-indices reference-points rows₀ columns₀ values₀ at₀ p₀ rows columns values at p = length element-indices - p
 
 abbrev start : tie.At-loop Inv-loop μ-loop → tie.Start Inv-loop μ-loop
-start l = l .before .before .before .before .before .before .before .before
+start l = l .before .before .before .before .before .before .before
 
 -- the call
 abbrev asking : tie.At-loop Inv-loop μ-loop → InterpolationCall
 asking l =
     let a = start l .args in
-    interpolationCall (a .family) (a .nodes-rz .now) (a .elements .now) (a .element-indices .now) (a .reference-points .now)
+    interpolationCall (a .family) [] (a .elements .now) (a .element-indices .now) (a .reference-points .now)
 
 -- the lists lent, at their first place
 abbrev lent : tie.At-loop Inv-loop μ-loop → Strip

@@ -10,7 +10,7 @@ use Rattle.definition.specs.Questions.{accepted, asked, verdictOutcome}
 use Rattle.definition.specs.Operators.{InterpolationCall, TripletLists, tripletRoom, operatorOf, interpolationQuestions, interpolation}
 use Rattle.operator_questions.specs.Calls.{interpolationCall}
 use Rattle.sparse.specs.Triplets.{shapeValue}
-use Rattle.sparse.proofs.Filling.{shape-most}
+use Rattle.sparse.proofs.Filling.{shape-most, shapes-alone}
 use Rattle.sparse.proofs.Promised.{refused-kept, accepted-kept, fifth-holds, few-points, room-for}
 use Rattle.interpolation.proofs.quad_mesh_interpolation_operator.Statement.{statement}
 use Rattle.interpolation.proofs.quad_mesh_interpolation_operator.Tie as tie
@@ -64,7 +64,7 @@ returns-2 c =
     let e = put .before .before .before .before in
     let v = e .before .before in
     let q = asking v in
-    accepted-kept (interpolation q (lent v)) (lent v) (passed e) (omega arith) (omega arith) (room-for (lent v) (roomy e) (shape-most q (shapeValue q) (length (q .elementIndices)))) (put .put-interpolation .ensures)
+    accepted-kept (interpolation q (lent v)) (lent v) (passed e) (omega arith) (omega arith) (room-for (lent v) (roomy e) (shape-most q (shapeValue q) (length (q .elementIndices)))) (rw (shapes-alone q (length (q .elementIndices))) at (put .put-interpolation .ensures))
 
 pub quad-mesh-interpolation-operator-spec : {M : Type 1} → statement M
 quad-mesh-interpolation-operator-spec =

@@ -1,7 +1,5 @@
 -- `reference_at` meets its contract: the two numbers of a pair. Assumes nothing.
-use mathlib.Core.Path.{ap}
 use borrow.Author.Needs.{needs}
-use Rattle.definition.specs.declared.Reference.{Reference}
 use Rattle.lists.proofs.reference_at.Statement.{statement}
 use Rattle.lists.proofs.reference_at.Tie as tie
 

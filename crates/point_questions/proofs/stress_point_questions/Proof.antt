@@ -1,12 +1,11 @@
 -- `stress_point_questions` meets its contract. The loop's invariant: questions 14, 15, 16 and 17 hold of the points met. The measure is what is left of the points. Assumes nothing.
 use mathlib.Core.Path.{_≡_, refl, ap}
-use mathlib.Core.List.{List, [], _∷_}
+use mathlib.Core.List.{List}
 use Prim.Native.Nat.{ℕ, _-_, _≤_}
 use native.Mathlib.Omega.{arith}
 use borrow.Author.Needs.{needs}
-use lib.ListN.{length, getD}
+use lib.ListN.{length}
 use Rattle.definition.specs.Lists.{every}
-use Rattle.definition.specs.Mesh.{Mesh}
 use Rattle.definition.specs.Questions.{Question, asked, verdictOutcome}
 use Rattle.point_questions.specs.Points.{stressAsked}
 use Rattle.point_questions.proofs.Asking.{Passed, passed-next, refused-here, passed-all}

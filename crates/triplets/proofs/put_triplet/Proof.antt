@@ -1,6 +1,4 @@
 -- `put_triplet` meets its contract: a value equal to 0 has no triplet, and the code's three tests are those of `stored`. Assumes nothing.
-use mathlib.Core.Path.{ap₂}
-use mathlib.Core.Bool.{_&&_}
 use borrow.Author.Needs.{needs}
 use borrow.Author.Tests.{lt-ltb, le-ltb}
 use lib.Ieee.{ofBits}
