@@ -1,0 +1,27 @@
+-- `numbers_kept` is safe and ends: the measure is what is left of the list. Assumes nothing.
+use Prim.Native.Nat.{_-_}
+use borrow.Author.Needs.{needs}
+use lib.ListN.{length}
+use Rattle.replay_operators.proofs.numbers_kept.Statement.{statement}
+use Rattle.replay_operators.proofs.numbers_kept.Tie as tie
+
+abbrev Inv-loop : tie.InvT-loop
+Inv-loop numbers from i₀ i = Unit
+
+abbrev μ-loop : tie.MeasureT-loop
+μ-loop numbers from i₀ i = length numbers - i
+
+pub numbers-kept-spec : {M : Type 1} → statement M
+numbers-kept-spec =
+    tie.close
+    (tie.spec
+    Inv-loop
+    μ-loop
+    (λ c. search needs)
+    (λ c. search needs)
+    (λ c. search needs)
+    (λ c. search needs)
+    (λ c. search needs)
+    (λ c. search needs)
+    (λ c. search needs)
+    (λ c. search needs))

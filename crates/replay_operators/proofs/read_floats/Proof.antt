@@ -1,0 +1,39 @@
+-- `read_floats` is safe, ends and meets its contract: the list keeps its length, and the measure is how many numbers are left. Assumes nothing.
+use mathlib.Core.Path.{_≡_, sym}
+use Prim.Native.Nat.{_-_}
+use native.Mathlib.Omega.{arith}
+use borrow.Author.Needs.{needs}
+use lib.ListN.{length}
+use lib.Seq.{length-take-le}
+use Rattle.replay_operators.proofs.read_floats.Statement.{statement}
+use Rattle.replay_operators.proofs.read_floats.Tie as tie
+
+abbrev Inv-loop : tie.InvT-loop
+Inv-loop case list floats₀ at count i₀ floats i = length floats ≡ length floats₀
+
+abbrev μ-loop : tie.MeasureT-loop
+μ-loop case list floats₀ at count i₀ floats i = count - i
+
+returns : tie.Need-returns Inv-loop μ-loop
+returns c = (omega arith, sym (length-take-le _ _ (omega arith)))
+
+pub read-floats-spec : {M : Type 1} → statement M
+read-floats-spec =
+    tie.close
+    (tie.spec
+    Inv-loop
+    μ-loop
+    (λ c κs. search needs)
+    (λ c κs. search needs)
+    (λ c κs. search needs)
+    (λ c. search needs)
+    (λ c. search needs)
+    (λ c. search needs)
+    (λ c κs. search needs)
+    (λ c. search needs)
+    (λ c. search needs)
+    (λ c. search needs)
+    (λ c. search needs)
+    (λ c. search needs)
+    (λ c. search needs)
+    returns)

@@ -1,0 +1,22 @@
+-- `read_part` is safe and meets its contract: what is read lies in the part that was lent. Assumes nothing.
+use mathlib.Core.Path.{sym}
+use native.Mathlib.Omega.{arith}
+use borrow.Author.Needs.{needs}
+use lib.ListN.{length-append}
+use lib.Seq.{length-take-le}
+use Rattle.replay_operators.proofs.read_part.Statement.{statement}
+use Rattle.replay_operators.proofs.read_part.Tie as tie
+
+returns : tie.Need-returns
+returns c = rw length-append (omega (arith, c .before .before .read-full .ensures .0))
+
+pub read-part-spec : {M : Type 1} → statement M
+read-part-spec =
+    tie.close
+    (tie.spec
+    (λ c. search needs)
+    (λ c. sym (length-take-le _ _ (omega arith)))
+    (λ c κs. search needs)
+    (λ c. search needs)
+    returns
+    (λ c. search needs))
