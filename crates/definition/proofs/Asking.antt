@@ -1,25 +1,25 @@
--- The order of the questions: in each row every later question of the call would be answered no as well, or at a later point, and the row's number and place are those of the first. Every row is computed.
--- Assumes nothing.
+-- The order of the questions of a query and of a job file: in each row every later question would be answered no as well, and the row's number and place are those of the first.
+-- And the bounds of questions 16 and 17. Every row is computed. Assumes nothing.
 use mathlib.Core.Path.{_≡_, refl}
-use mathlib.Core.Bool.{Bool, true, false, cond}
+use mathlib.Core.Bool.{true, false, cond}
 use mathlib.Core.List.{List, [], _∷_, _++_}
 use Prim.Native.Nat.{ℕ, _-_, _*_}
 use Prim.Native.String.{String}
 use lib.Dec.{eqb}
 use lib.ListN.{replicate}
-use lib.Ieee.{Float, nan}
+use lib.Ieee.{Float}
 use Rattle.definition.specs.Lists.{each}
-use Rattle.definition.specs.Binary64.{plus0, one, two, minusOne}
-use Rattle.definition.specs.Questions.{Question, Outcome, accepted, refused, asked}
+use Rattle.definition.specs.Binary64.{plus0, one, minusOne}
+use Rattle.definition.specs.Questions.{Question, Outcome, accepted, refused, asked, notInverted, offAxis}
 use Rattle.definition.specs.Query.{QueryLists, queryRoom, queryQuestions}
-use Rattle.definition.specs.Operators.{InterpolationCall, TripletLists, tripletRoom, interpolationQuestions, strainQuestions, stressQuestions}
 use Rattle.definition.specs.Job.{Job, text, recordQuestions, listing}
-use Rattle.definition.specs.declared.Structural2dFormulation.{Structural2dFormulation}
-use Rattle.definition.specs.declared.Structural2dFormulation.the-variants.{Axisymmetric, PlaneStrain}
+use Rattle.definition.specs.declared.Reference.{Reference}
+use Rattle.definition.specs.declared.Structural2dFormulation.the-variants.{Axisymmetric}
 use Rattle.definition.proofs.Computing.{querying, operating, listing-of-jobs}
+use Rattle.definition.proofs.Written.{twoToMinus}
 
 -- what questions come to: a refusal, or the acceptance of no value
-abbrev verdict : List Question → Outcome (List ℕ)
+abbrev pub verdict : List Question → Outcome (List ℕ)
 verdict qs = asked qs []
 
 -- ---- the query: 1, 2, 3, 4, 5, 7, 8, 9, 10
@@ -52,19 +52,19 @@ query family nodes elements iterations points places =
     verdict (queryQuestions (record { mesh = record { family = family; nodes = nodes; elements = elements }; iterations = iterations; points = points }) (lacking places 12))
 
 -- half a pair, a pair, and node numbers: three, two rows of which the second names a node that is not there, and the same with both rows good
-abbrev half : List Float
+abbrev pub half : List Float
 half = one ∷ []
 
-abbrev pair : List Float
+abbrev pub pair : List Float
 pair = one ∷ one ∷ []
 
-abbrev three : List ℕ
+abbrev pub three : List ℕ
 three = 0 ∷ 0 ∷ 0 ∷ []
 
-abbrev secondBad : List ℕ
+abbrev pub secondBad : List ℕ
 secondBad = 0 ∷ 0 ∷ 0 ∷ 0 ∷ 0 ∷ 0 ∷ 0 ∷ 1 ∷ []
 
-abbrev bothGood : List ℕ
+abbrev pub bothGood : List ℕ
 bothGood = replicate 8 0
 
 query-order :
@@ -97,158 +97,19 @@ query-order :
 unfolding querying
 query-order = refl
 
--- ---- the operators
+-- ---- the determinant and the radius, of point 3: 16 and 17
 
-abbrev lent : ℕ → ℕ → TripletLists
-lent n k = record { rows = replicate (n - cond (eqb k 0) 1 0) 0; columns = replicate (n - cond (eqb k 1) 1 0) 0; values = replicate (n - cond (eqb k 2) 1 0) plus0 }
+abbrev centre : Reference
+centre = record { xi = plus0; eta = plus0 }
 
-each-triplet-list-is-asked : each (λ k. tripletRoom (lent 3 k) 3 ∷ []) 4 ≡ false ∷ false ∷ false ∷ true ∷ []
+-- a square whose nodes run clockwise, and nodes that all have the radius 2^-52: the determinant is -1, and the radius at its bound
+shape-refusals :
+    verdict (notInverted (record { count = 4; xy = minusOne ∷ minusOne ∷ minusOne ∷ one ∷ one ∷ one ∷ one ∷ minusOne ∷ replicate 10 plus0 }) 3 centre ∷ [])
+    ∷ verdict (offAxis Axisymmetric (record { count = 4; xy = replicate 18 (twoToMinus 52) }) 3 centre)
+    ∷ []
+    ≡ refused 16 3 ∷ refused 17 3 ∷ []
 unfolding operating
-each-triplet-list-is-asked = refl
-
-abbrev call : ℕ → List Float → List ℕ → List ℕ → List Float → InterpolationCall
-call family nodes elements ids references =
-    record { mesh = record { family = family; nodes = nodes; elements = elements }; elementIndices = ids; referencePoints = references }
-
--- interpolation: 1, 2, 3, 5, 7, 8, 11, 14. "counted by the element numbers given": F places for each of two numbers
-abbrev interpolate : ℕ → List Float → List ℕ → List ℕ → List Float → ℕ → Outcome (List ℕ)
-interpolate family nodes elements ids references places =
-    verdict (interpolationQuestions (call family nodes elements ids references) (lent places 3))
-
-interpolation-order :
-    interpolate 5 half three (0 ∷ 2 ∷ []) half 7
-    ∷ interpolate 4 half three (0 ∷ 2 ∷ []) half 7
-    ∷ interpolate 4 pair three (0 ∷ 2 ∷ []) half 7
-    ∷ interpolate 4 pair secondBad (0 ∷ 2 ∷ []) half 7
-    ∷ interpolate 4 pair secondBad (0 ∷ 2 ∷ []) pair 7
-    ∷ interpolate 4 pair secondBad (0 ∷ 2 ∷ []) pair 8
-    ∷ interpolate 4 pair bothGood (0 ∷ 2 ∷ []) pair 8
-    ∷ interpolate 4 pair bothGood (0 ∷ 2 ∷ []) (pair ++ pair) 8
-    ∷ interpolate 4 pair bothGood (0 ∷ 1 ∷ []) (pair ++ pair) 8
-    ∷ interpolate 9 [] [] [] [] 0
-    ∷ []
-    ≡ refused 1 0
-    ∷ refused 2 0
-    ∷ refused 3 0
-    ∷ refused 5 0
-    ∷ refused 7 0
-    ∷ refused 8 1
-    ∷ refused 11 0
-    ∷ refused 14 1
-    ∷ accepted []
-    ∷ accepted []
-    ∷ []
-unfolding operating
-interpolation-order = refl
-
--- U, and U again with its nodes the other way round
-abbrev nodesU : List Float
-nodesU = plus0 ∷ plus0 ∷ two ∷ plus0 ∷ two ∷ two ∷ plus0 ∷ two ∷ []
-
-abbrev goodThenInverted : List ℕ
-goodThenInverted = 0 ∷ 1 ∷ 2 ∷ 3 ∷ 0 ∷ 3 ∷ 2 ∷ 1 ∷ []
-
--- the centre and a point of the left side, where the radius is 0
-abbrev centre : List Float
-centre = plus0 ∷ plus0 ∷ []
-
-abbrev leftSide : List Float
-leftSide = minusOne ∷ plus0 ∷ []
-
--- strain: 1, 2, 3, 5, 7, 8, 11, and for each point 14, 16, 17
-abbrev strains : ℕ → List Float → List ℕ → List ℕ → List Float → Structural2dFormulation → ℕ → Outcome (List ℕ)
-strains family nodes elements ids references f places =
-    verdict (strainQuestions (record { base = call family nodes elements ids references; formulation = f }) (lent places 3))
-
-strain-order :
-    strains 5 half three (0 ∷ 2 ∷ []) half Axisymmetric 63
-    ∷ strains 4 half three (0 ∷ 2 ∷ []) half Axisymmetric 63
-    ∷ strains 4 pair three (0 ∷ 2 ∷ []) half Axisymmetric 63
-    ∷ strains 4 pair secondBad (0 ∷ 2 ∷ []) half Axisymmetric 63
-    ∷ strains 4 pair secondBad (0 ∷ 2 ∷ []) pair Axisymmetric 63
-    ∷ strains 4 pair secondBad (0 ∷ 2 ∷ []) pair Axisymmetric 64
-    ∷ strains 4 nodesU goodThenInverted (0 ∷ 2 ∷ []) pair Axisymmetric 64
-    ∷ strains 4 nodesU goodThenInverted (1 ∷ 2 ∷ []) (leftSide ++ centre) Axisymmetric 64
-    ∷ strains 4 nodesU goodThenInverted (0 ∷ 2 ∷ []) (leftSide ++ centre) Axisymmetric 64
-    ∷ strains 4 nodesU goodThenInverted (0 ∷ 2 ∷ []) (leftSide ++ centre) (PlaneStrain nan) 64
-    ∷ strains 4 nodesU goodThenInverted (0 ∷ 1 ∷ []) (leftSide ++ leftSide) (PlaneStrain nan) 64
-    ∷ strains 4 nodesU goodThenInverted (0 ∷ 0 ∷ []) (centre ++ leftSide) Axisymmetric 64
-    ∷ strains 4 nodesU goodThenInverted (0 ∷ 0 ∷ []) (centre ++ nan ∷ nan ∷ []) Axisymmetric 64
-    ∷ []
-    ≡ refused 1 0
-    ∷ refused 2 0
-    ∷ refused 3 0
-    ∷ refused 5 0
-    ∷ refused 7 0
-    ∷ refused 8 1
-    ∷ refused 11 0
-    ∷ refused 16 0
-    ∷ refused 17 0
-    ∷ refused 14 1
-    ∷ refused 16 1
-    ∷ refused 17 1
-    ∷ accepted []
-    ∷ []
-unfolding operating
-strain-order = refl
-
--- stress: 1, 2, 3, 5, 6, 7, 8, 11, 12, 13, and for each point 14, 15, 16, 17
-abbrev stresses : ℕ → List Float → List ℕ → List ℕ → List Float → List ℕ → List Float → Bool → List Float → ℕ → Outcome (List ℕ)
-stresses family nodes elements ids references materials table given pairs places =
-    verdict
-    (stressQuestions (record {
-      base = call family nodes elements ids references;
-      formulation = Axisymmetric;
-      materialIds = materials;
-      materialTable = table;
-      pairsGiven = given;
-      pairs = pairs;
-    }) (lent places 3))
-
-abbrev material : List Float
-material = replicate 16 one
-
-stress-order :
-    stresses 5 half three (0 ∷ 2 ∷ []) half (1 ∷ []) half true half 63
-    ∷ stresses 4 half three (0 ∷ 2 ∷ []) half (1 ∷ []) half true half 63
-    ∷ stresses 4 pair three (0 ∷ 2 ∷ []) half (1 ∷ []) half true half 63
-    ∷ stresses 4 pair secondBad (0 ∷ 2 ∷ []) half (1 ∷ []) half true half 63
-    ∷ stresses 4 pair secondBad (0 ∷ 2 ∷ []) pair (1 ∷ []) half true pair 63
-    ∷ stresses 4 pair secondBad (0 ∷ 2 ∷ []) pair (1 ∷ []) material true half 63
-    ∷ stresses 4 pair secondBad (0 ∷ 2 ∷ []) pair (1 ∷ []) material true pair 63
-    ∷ stresses 4 pair secondBad (0 ∷ 2 ∷ []) pair (1 ∷ []) material false half 63
-    ∷ stresses 4 pair secondBad (0 ∷ 2 ∷ []) pair (1 ∷ []) material true pair 64
-    ∷ stresses 4 nodesU goodThenInverted (0 ∷ 2 ∷ []) pair (1 ∷ []) material true pair 64
-    ∷ stresses 4 nodesU goodThenInverted (1 ∷ 2 ∷ []) (leftSide ++ centre) (1 ∷ []) material true pair 64
-    ∷ stresses 4 nodesU goodThenInverted (1 ∷ 2 ∷ []) (leftSide ++ centre) (0 ∷ 1 ∷ []) material true pair 64
-    ∷ stresses 4 nodesU goodThenInverted (1 ∷ 2 ∷ []) (leftSide ++ centre) (0 ∷ 1 ∷ []) material false pair 64
-    ∷ stresses 4 nodesU goodThenInverted (0 ∷ 2 ∷ []) (leftSide ++ centre) (0 ∷ 1 ∷ []) material false half 64
-    ∷ stresses 4 nodesU goodThenInverted (0 ∷ 2 ∷ []) (centre ++ centre) (0 ∷ 1 ∷ []) material false half 64
-    ∷ stresses 4 nodesU goodThenInverted (0 ∷ 1 ∷ []) (centre ++ centre) (0 ∷ 1 ∷ []) material false half 64
-    ∷ stresses 4 nodesU goodThenInverted (0 ∷ 1 ∷ []) (centre ++ centre) (0 ∷ 0 ∷ []) material false half 64
-    ∷ stresses 4 nodesU goodThenInverted (0 ∷ 0 ∷ []) (centre ++ centre) (0 ∷ 1 ∷ []) material false half 64
-    ∷ []
-    ≡ refused 1 0
-    ∷ refused 2 0
-    ∷ refused 3 0
-    ∷ refused 5 0
-    ∷ refused 6 0
-    ∷ refused 6 0
-    ∷ refused 7 0
-    ∷ refused 7 0
-    ∷ refused 8 1
-    ∷ refused 11 0
-    ∷ refused 12 0
-    ∷ refused 13 0
-    ∷ refused 15 0
-    ∷ refused 17 0
-    ∷ refused 14 1
-    ∷ refused 15 1
-    ∷ refused 16 1
-    ∷ accepted []
-    ∷ []
-unfolding operating
-stress-order = refl
+shape-refusals = refl
 
 -- ---- the records of a job file: 18, 19, 20, 1, 21
 

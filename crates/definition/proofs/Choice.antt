@@ -1,21 +1,21 @@
--- The choice: of equals the first stays, a NaN in first place stays, and nodes compare squared distances where elements and faces compare rooted ones.
+-- The choice: of equals the first stays, a NaN in first place stays, elements compare rooted distances, and only a distance of 0 is inside.
 -- Assumes nothing.
 use mathlib.Core.Path.{_≡_, refl}
 use mathlib.Core.Bool.{Bool, true, false, cond}
 use mathlib.Core.List.{[], _∷_}
-use Prim.Native.Nat.{ℕ, zero, suc, _*_, _^_}
+use Prim.Native.Nat.{ℕ, zero, suc, _*_}
 use native.Mathlib.Nat.{lt-irrefl}
 use lib.Dec.{T, ltb, ltb→lt, not-T}
-use lib.Ieee.{Float, nan, inf, fin, up, down, binary64, lt, round}
+use lib.Ieee.{Float, nan, inf, fin, up, down, lt}
 use lib.Ieee.Bits.{is-false}
 use Rattle.definition.specs.Binary64.{plus0, one}
 use Rattle.definition.specs.Mesh.{Mesh}
 use Rattle.definition.specs.Choice.{pick, pointAnswer}
 use Rattle.definition.specs.Query.{QueryCall, insideCount}
 use Rattle.definition.specs.declared.Point.{Point}
-use Rattle.definition.specs.declared.PointAnswer.{PointAnswer}
 use Rattle.definition.proofs.Root.Order.{lt-nan}
 use Rattle.definition.proofs.Computing.{searching, querying}
+use Rattle.definition.proofs.Written.{twoToMinus, at}
 
 -- nothing is below itself
 not-below-itself : (n : ℕ) → ltb n n ≡ false
@@ -54,25 +54,21 @@ nan-first-stays d (suc n) h = rw (pick-more d n, nan-first-stays d n h, h, lt-na
 -- ---- two squared distances with one root
 
 -- Node 0 lies at (1, 2^-26) and node 1 at (1, 0), each with an element shrunk to it, and the point at (0, 0): the squared distances are 1 + 2^-52 and 1, and both roots are 1.
-abbrev twoPlaces : Mesh
+abbrev pub twoPlaces : Mesh
 twoPlaces =
     record {
       family = 4;
-      nodes = one ∷ round binary64 false 1 (2 ^ 26) ∷ one ∷ plus0 ∷ [];
+      nodes = one ∷ twoToMinus 26 ∷ one ∷ plus0 ∷ [];
       elements = 0 ∷ 0 ∷ 0 ∷ 0 ∷ 1 ∷ 1 ∷ 1 ∷ 1 ∷ [];
     }
 
-abbrev origin : Point
-origin = record { x = plus0; y = plus0 }
+abbrev pub origin : Point
+origin = at plus0 plus0
 
--- the numbers of the nearest node, element, and face's element and face
-abbrev named : PointAnswer → ℕ × ℕ × ℕ × ℕ
-named a = (a .node .«node_index», a .element .«element_index», a .face .«element_index», a .face .«local_face»)
-
--- node 1 is nearer by its square; the elements tie by their roots, and so do the faces, and the first is named
-rooted-and-squared : named (pointAnswer twoPlaces 0 origin) ≡ (1, 0, 0, 0)
+-- the elements tie by their roots, and the first is named
+elements-tie-by-roots : pointAnswer twoPlaces 0 origin .element .«element_index» ≡ 0
 unfolding searching
-rooted-and-squared = refl
+elements-tie-by-roots = refl
 
 -- ---- "A point counts as inside when its element distance is 0": not where it is 2^-60
 
@@ -81,7 +77,7 @@ besideNode =
     record {
       mesh = record { family = 4; nodes = one ∷ plus0 ∷ []; elements = 0 ∷ 0 ∷ 0 ∷ 0 ∷ [] };
       iterations = 0;
-      points = one ∷ round binary64 false 1 (2 ^ 60) ∷ [];
+      points = one ∷ twoToMinus 60 ∷ [];
     }
 
 only-zero-is-inside : insideCount besideNode ≡ 0

@@ -1,4 +1,4 @@
--- An element has fewer than F distinct nodes exactly where two of its nodes are equal. Assumes nothing.
+-- An element has fewer than F distinct nodes exactly where two of its nodes are equal; and a mesh of which one element has. Assumes nothing.
 use mathlib.Core.Path.{_≡_, refl}
 use mathlib.Core.Bool.{Bool, true, false, cond, _||_}
 use mathlib.Core.List.{List, [], _∷_}
@@ -8,7 +8,8 @@ use native.Mathlib.Omega.{arith}
 use borrow.Author.Tests.{eqb-true, eq-eqb}
 use lib.Dec.{eqb}
 use lib.ListN.{length, getD}
-use Rattle.definition.specs.Mesh.{isIn, distinct}
+use Rattle.definition.specs.Mesh.{isIn, distinct, repeatedCount}
+use Rattle.definition.proofs.Computing.{querying}
 
 -- places i and j of the list, i before j, hold one number
 pub record Pair (l : List ℕ) : Type 0 where
@@ -71,3 +72,8 @@ fewer-of-places (v ∷ vs) (suc i) (suc j) b w e = by (isIn v vs) (fewer-of-plac
 
 pub fewer-of-pair : (l : List ℕ) → Pair l → distinct l < length l
 fewer-of-pair l p = fewer-of-places l (p .i) (p .j) (p .before) (p .within) (p .equal)
+
+-- "The count of elements with fewer than F distinct nodes": of an element with four and one with three
+one-repeats : repeatedCount (record { family = 4; nodes = []; elements = 0 ∷ 1 ∷ 2 ∷ 3 ∷ 0 ∷ 1 ∷ 2 ∷ 2 ∷ [] }) ≡ 1
+unfolding querying
+one-repeats = refl

@@ -1,7 +1,7 @@
--- What holds the definitions: the worked table and the laws.
+-- What holds the definitions: laws, and small rows that the checker computes. The crate `worked` has the long rows.
 pub mod Computing
-pub mod Worked
-pub mod Published
+pub mod Written
+pub mod Order
 pub mod Binary64
 pub mod Root
 pub mod Search

@@ -1,4 +1,4 @@
--- Triplets and materials: a NaN is kept and both zeros are omitted, a pair equal to (1, 0) copies the material and no other does, and a structural 0 is a term like any other.
+-- Triplets and materials: a NaN is kept and both zeros are omitted, a pair equal to (1, 0) copies the material, and a structural 0 is a term like any other.
 -- Assumes nothing.
 use mathlib.Core.Path.{_≡_, refl}
 use mathlib.Core.Bool.{true, false}
@@ -6,7 +6,7 @@ use mathlib.Core.List.{List, [], _∷_, _++_}
 use Prim.Native.Nat.{ℕ}
 use lib.IntN.{pos}
 use lib.ListN.{replicate}
-use lib.Ieee.{Float, nan, inf, fin, binary64, eq, round}
+use lib.Ieee.{Float, nan, inf, fin, eq}
 use Rattle.definition.specs.Binary64.{plus0, one, minusOne}
 use Rattle.definition.specs.Rows.{kept, Basis, materialOf, rotated, orientedMaterial, stressEntry}
 use Rattle.definition.specs.declared.Structural2dFormulation.the-variants.{PlaneStrain}
@@ -34,20 +34,6 @@ one-zero-copies m = refl
 pub one-minus-zero-copies : (m : List Float) → rotated m one minus0 ≡ m
 unfolding rotated eq
 one-minus-zero-copies m = refl
-
-abbrev four : ℕ → Float
-four n = round binary64 false n 1
-
--- (1, 1) and (-1, 0) do not
-others-rotate :
-    rotated (replicate 16 one) one one ++ rotated (replicate 16 one) minusOne plus0
-    ≡ plus0 ∷ plus0 ∷ plus0 ∷ plus0 ∷
-    plus0 ∷ four 16 ∷ four 4 ∷ plus0 ∷
-    plus0 ∷ four 4 ∷ one ∷ plus0 ∷
-    plus0 ∷ plus0 ∷ plus0 ∷ plus0 ∷
-    replicate 16 one
-unfolding operating
-others-rotate = refl
 
 -- "if not, the list is not read"
 pub pairs-not-given : (table pairs : List Float) (number e : ℕ) → orientedMaterial table number false pairs e ≡ materialOf table number

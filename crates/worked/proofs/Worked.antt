@@ -6,16 +6,17 @@ use mathlib.Core.Bool.{true, false}
 use mathlib.Core.List.{List, [], _∷_, _++_, map}
 use Prim.Native.Nat.{ℕ, zero, suc, _-_, _/_, _%_, _^_}
 use lib.ListN.{replicate, take}
-use lib.Ieee.{Float, binary64, round, ofBits, toBits}
+use lib.Ieee.{Float, binary64, round, toBits}
 use Rattle.definition.specs.Binary64.{plus0, one, two, half, quarter, minusQuarter}
 use Rattle.definition.specs.Root.{rootOf}
 use Rattle.definition.specs.Elements.{nodesOf, shapeOf}
 use Rattle.definition.specs.Questions.{Outcome, accepted, refused}
 use Rattle.definition.specs.Operators.{InterpolationCall, StrainCall, TripletLists, OperatorCounts, operated, tripletLists, interpolation, strain}
 use Rattle.definition.specs.Job.{text, listing}
 use Rattle.definition.specs.declared.Structural2dFormulation.{Structural2dFormulation}
 use Rattle.definition.specs.declared.Structural2dFormulation.the-variants.{Axisymmetric, PlaneStrain}
 use Rattle.definition.proofs.Computing.{listing-of-jobs, operating}
+use Rattle.definition.proofs.Written.{twoToMinus, bits}
 
 -- ---- how inputs are written
 
@@ -25,10 +26,6 @@ ratio a b = round binary64 false a b
 
 abbrev minus : ℕ → ℕ → Float
 minus a b = round binary64 true a b
-
--- 2 ^ -k
-abbrev twoToMinus : ℕ → Float
-twoToMinus k = round binary64 false 1 (2 ^ k)
 
 -- n as k bytes, least byte first
 abbrev bytes : ℕ → ℕ → List ℕ
@@ -52,7 +49,7 @@ QE4 a b c d = text "QE" ++ bytes 4 a ++ bytes 4 b ++ bytes 4 c ++ bytes 4 d
 abbrev jobU : Float → Float → List ℕ
 jobU x y = QF 4 0 ++ QN plus0 plus0 ++ QN two plus0 ++ QN two two ++ QN plus0 two ++ QE4 0 1 2 3 ++ QP x y
 
-abbrev nodesU : List Float
+abbrev pub nodesU : List Float
 nodesU = plus0 ∷ plus0 ∷ two ∷ plus0 ∷ two ∷ two ∷ plus0 ∷ two ∷ []
 
 -- lent lists of n places, each holding 9
@@ -130,7 +127,7 @@ table =
     ∷ row 2 (interpolate (interpolate9 half plus0) (nines 10))
     (operator (counts 1 9 3) (lists 7 (0 ∷ 0 ∷ 0 ∷ []) (5 ∷ 7 ∷ 8 ∷ []) (ratio 375 1000 ∷ minus 125 1000 ∷ ratio 75 100 ∷ [])))
     ∷ row 3 (root two)
-    (floats (ofBits binary64 0x3ff6a09e667f3bcd ∷ []))
+    (floats (bits 0x3ff6a09e667f3bcd ∷ []))
     ∷ row 4 (root (twoToMinus 1074))
     (floats (twoToMinus 537 ∷ []))
     ∷ row 5 (root plus0)

@@ -3,33 +3,27 @@
 use mathlib.Core.Path.{_≡_, refl}
 use mathlib.Core.Bool.{true, false}
 use mathlib.Core.List.{List, [], _∷_, _++_}
-use Prim.Native.Nat.{ℕ, _^_}
+use Prim.Native.Nat.{ℕ}
 use lib.ListN.{replicate}
-use lib.Ieee.{Float, nan, inf, binary64, neg, round, ofBits}
+use lib.Ieee.{Float, binary64, round}
 use Rattle.definition.specs.Lists.{each}
 use Rattle.definition.specs.Elements.{shapeOf}
 use Rattle.definition.specs.Mapping.{invJ, pointAt, jacobianAt}
 use Rattle.definition.specs.Search.{more, reference, elementStep, faceStep, closestFacePoint}
 use Rattle.definition.specs.Mesh.{Mesh, gathered}
 use Rattle.definition.specs.Rows.{basisAt}
 use Rattle.definition.specs.Operators.{StressCall, TripletLists, operated, tripletLists, stress}
-use Rattle.definition.specs.declared.Point.{Point}
 use Rattle.definition.specs.declared.Reference.{Reference}
 use Rattle.definition.specs.declared.Structural2dFormulation.the-variants.{Axisymmetric}
 use Rattle.definition.proofs.Computing.{mapping, searching, operating}
+use Rattle.definition.proofs.Written.{bits, at}
 
--- n tenths, and n tenths below zero, each the nearest binary64; and a binary64 by its bits
+-- n tenths, and n tenths below zero, each the nearest binary64
 abbrev tenths : ℕ → Float
 tenths n = round binary64 false n 10
 
 abbrev below : ℕ → Float
 below n = round binary64 true n 10
-
-abbrev bits : ℕ → Float
-bits b = ofBits binary64 b
-
-abbrev at : Float → Float → Point
-at x y = record { x = x; y = y }
 
 abbrev corners : List Float
 corners = tenths 1 ∷ tenths 2 ∷ tenths 23 ∷ below 1 ∷ tenths 21 ∷ tenths 19 ∷ below 3 ∷ tenths 17 ∷ []
@@ -58,20 +52,6 @@ element9-step = refl
 face9-step : faceStep (gathered skew9 0) 2 (at (tenths 5) (tenths 18)) (tenths 0) ≡ more (bits 0x3fd44daec944daec)
 unfolding searching
 face9-step = refl
-
--- far outside the square the order of the factors is seen: in any other order the products overflow
-abbrev power : ℕ → Float
-power k = round binary64 false (2 ^ k) 1
-
-shape4-order : shapeOf 4 (neg (power 1023)) (below 30)
-    ≡ power 1023 ∷ neg (power 1023) ∷ power 1022 ∷ neg (power 1022) ∷ replicate 5 (tenths 0)
-unfolding mapping
-shape4-order = refl
-
-shape9-order : shapeOf 9 (power 512) (tenths 10)
-    ≡ tenths 0 ∷ tenths 0 ∷ power 1023 ∷ power 1023 ∷ nan ∷ tenths 0 ∷ inf true ∷ tenths 0 ∷ nan ∷ []
-unfolding mapping
-shape9-order = refl
 
 -- the element of family 9 at (0.3, -0.6): shape numbers, point, Jacobian, its determinant and inverse, and the physical gradients
 abbrev inside : Reference

@@ -1,0 +1,6 @@
+-- Rows that hold the definition and take longer: the paper's worked table, values of the published Rust, steps at each bound, a whole choice, the operators' questions.
+pub mod Worked
+pub mod Published
+pub mod Steps
+pub mod Choice
+pub mod Operators
