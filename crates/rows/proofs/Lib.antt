@@ -2,3 +2,4 @@
 pub mod Values
 pub mod Strain
 pub mod Stress
+pub mod Gathered

@@ -1,4 +1,4 @@
-// The strain values of one point of an element, `build_b_matrix` of the Rust. It knows an element by its family and by the coordinates of its nodes: no node numbers, no triplet and no question.
+// The strain values of one point of an element, `build_b_matrix` of the Rust. It knows an element by the coordinates of its nodes, gathered from the mesh: no triplet and no question.
 // The components are rr, zz, tt and rz (xx, yy, zz and xy), with engineering shear. Values stand by component, local node and displacement component, the order of the triplets.
 use definition::Reference;
 use definition::Structural2dFormulation;
@@ -10,11 +10,12 @@ ghost use lib.Ieee.{nan};
 ghost use Rattle.definition.specs.Lists.{each, over};
 ghost use Rattle.definition.specs.Binary64.{_⊘_, plus0};
 ghost use Rattle.definition.specs.Elements.{nodesOf};
+ghost use Rattle.definition.specs.Mesh.{gathered};
 ghost use Rattle.definition.specs.Query.{values};
 ghost use Rattle.definition.specs.Rows.{basisAt, hoop, strainEntry};
 ghost use Rattle.mapping.specs.Element.{element};
 ghost use Rattle.material.specs.Products.{overFrom};
-ghost use Rattle.rows.specs.Values.{valuesOf, entryBy};
+ghost use Rattle.rows.specs.Values.{listed, entryBy};
 
 // ---- what the rows are made of, node after node
 
@@ -94,7 +95,7 @@ fn put_pairs(first: &[f64; 9], second: &[f64; 9], count: usize, at: usize, out: 
 // The four rows, over zeros, from the gradients by x and by y and the tt values.
 fn strain_rows(by_x: &[f64; 9], by_y: &[f64; 9], hoop: &[f64; 9], count: usize) -> [f64; 72]
     requires { ⌜ count ≤ 9 ⌝ }
-    ensures { λ r. ⌜ r ≡ over (valuesOf (entryBy (now («by_x» .entry)) (now («by_y» .entry)) (now (hoop .entry))) count) (replicate 72 plus0) ⌝ }
+    ensures { λ r. ⌜ r ≡ listed (entryBy (now («by_x» .entry)) (now («by_y» .entry)) (now (hoop .entry))) count ⌝ }
 {
     let none = [0.0; 9];
     let mut out = [0.0; 72];
@@ -112,7 +113,7 @@ pub fn strain_values(
     coords: &[f64; 18],
     reference: Reference,
 ) -> [f64; 72]
-    ensures { λ r. ⌜ r ≡ over (valuesOf (strainEntry formulation (basisAt (element family (now (coords .entry))) reference)) (nodesOf family)) (replicate 72 plus0) ⌝ }
+    ensures { λ r. ⌜ r ≡ listed (strainEntry formulation (basisAt (element family (now (coords .entry))) reference)) (nodesOf family) ⌝ }
 {
     let count = elements::nodes_per_element(family);
     let gradient = gradient_at(family, coords, reference);
@@ -120,4 +121,19 @@ pub fn strain_values(
     let by_y = column(&gradient, 1, count);
     let hoop = hoop_at(formulation, family, coords, reference);
     strain_rows(&by_x, &by_y, &hoop, count)
+}
+
+// The strain values at a reference point of an element of the mesh: `nodes_rz` has two coordinates a node, and `elements` F node numbers an element.
+pub fn strain_at(
+    family: usize,
+    nodes_rz: &[f64],
+    elements: &[u32],
+    element_index: usize,
+    reference: Reference,
+    formulation: Structural2dFormulation,
+) -> [f64; 72]
+    ensures { λ r. ⌜ r ≡ listed (strainEntry formulation (basisAt (gathered (record { family = family; nodes = now («nodes_rz» .entry); elements = now (elements .entry) }) «element_index») reference)) (nodesOf family) ⌝ }
+{
+    let e = mesh::element_coords(family, nodes_rz, elements, element_index);
+    strain_values(formulation, e.count, &e.xy, reference)
 }

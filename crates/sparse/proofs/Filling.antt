@@ -5,31 +5,22 @@ use mathlib.Core.List.{List, [], _∷_}
 use Prim.Native.Nat.{ℕ, zero, suc, _+_, _*_, _≤_}
 use native.Mathlib.Nat.{add-assoc}
 use native.Mathlib.Omega.{arith}
-use lib.Dec.{eqb}
 use lib.ListN.{length, getD, replicate, length-append}
 use lib.Ieee.{Float, nan, eq}
 use Rattle.definition.specs.Binary64.{plus0}
 use Rattle.definition.specs.Elements.{nodesOf, shapeOf}
 use Rattle.definition.specs.Lists.{each}
-use Rattle.definition.specs.Mesh.{Mesh, elementNodes, gathered}
+use Rattle.definition.specs.Mesh.{elementNodes}
 use Rattle.definition.specs.Operators.{InterpolationCall, elementAt, referenceAt}
 use Rattle.definition.specs.Rows.{Triplet, kept, pointTriplets}
 use Rattle.definition.specs.declared.Reference.{Reference}
 use Rattle.definition.proofs.Lists.{each-same}
 use Rattle.mesh.proofs.Rows.{row-alone}
+use Rattle.rows.specs.Values.{listed}
 use Rattle.rows.proofs.Values.{written-at}
 use Rattle.triplets.specs.Strip.{Strip, written}
 use Rattle.triplets.proofs.Strips.{written-each}
-use Rattle.sparse.specs.Triplets.{tripletsTill, shapeValue, listed}
-
--- a gathered element has the family's number of nodes
-nodes-again : (family : ℕ) → nodesOf (nodesOf family) ≡ nodesOf family
-unfolding nodesOf
-nodes-again family = elim (eqb family 9) as (λ b. _≡_ {A = ℕ} (cond (eqb (cond b 9 4) 9) 9 4) (cond b 9 4)) [ true ↦ refl | false ↦ refl ]
-
-pub nodes-gathered : (m : Mesh) (e : ℕ) → nodesOf (gathered m e .count) ≡ nodesOf (m .family)
-unfolding gathered
-nodes-gathered m e = nodes-again (m .family)
+use Rattle.sparse.specs.Triplets.{tripletsTill, shapeValue}
 
 -- triplets whose values are read from an array
 entries-are : (F p : ℕ) (node : ℕ → ℕ) (value : ℕ → ℕ → ℕ → Float) → pointTriplets 4 2 F node (λ i j d. getD (listed value F) (2 * F * i + 2 * j + d) nan) p ≡ pointTriplets 4 2 F node value p

@@ -1,15 +1,13 @@
 -- The triplets of an operator, and its values as the code lists them.
 use mathlib.Core.List.{List}
 use Prim.Native.Nat.{ℕ}
-use lib.ListN.{getD, replicate}
+use lib.ListN.{getD}
 use lib.Ieee.{Float, nan}
-use Rattle.definition.specs.Binary64.{plus0}
 use Rattle.definition.specs.Elements.{nodesOf, shapeOf}
-use Rattle.definition.specs.Lists.{each, over}
+use Rattle.definition.specs.Lists.{each}
 use Rattle.definition.specs.Mesh.{nodeOf}
 use Rattle.definition.specs.Operators.{InterpolationCall, StrainCall, StressCall, elementAt, referenceAt, basisOf, orientedAt}
 use Rattle.definition.specs.Rows.{Triplet, pointTriplets, strainEntry, stressEntry}
-use Rattle.rows.specs.Values.{valuesOf}
 
 -- the triplets of the first n points, with k rows a point and c columns a node
 abbrev pub tripletsTill : InterpolationCall → ℕ → ℕ → (ℕ → ℕ → ℕ → ℕ → Float) → ℕ → List Triplet
@@ -24,7 +22,3 @@ strainValue q p = strainEntry (q .formulation) (basisOf (q .base) p)
 
 abbrev pub stressValue : StressCall → ℕ → ℕ → ℕ → ℕ → Float
 stressValue q p = stressEntry (orientedAt q p) (q .formulation) (basisOf (q .base) p)
-
--- the values of a point, two columns a node, as an array
-abbrev pub listed : (ℕ → ℕ → ℕ → Float) → ℕ → List Float
-listed value nodes = over (valuesOf value nodes) (replicate 72 plus0)

@@ -4,32 +4,13 @@
 ghost use mathlib.Core.Path.{_≡_};
 ghost use Prim.Native.Nat.{_≤_};
 ghost use lib.ListN.{length};
-ghost use Rattle.definition.specs.Elements.{nodesOf};
-ghost use Rattle.definition.specs.Mesh.{gathered};
 ghost use Rattle.definition.specs.Operators.{StrainPromise};
-ghost use Rattle.definition.specs.Rows.{basisAt, strainEntry};
 ghost use Rattle.operator_questions.specs.Calls.{interpolationCall, strainCall};
 ghost use Rattle.triplets.specs.Strip.{strip, written};
-ghost use Rattle.sparse.specs.Triplets.{tripletsTill, strainValue, listed};
+ghost use Rattle.sparse.specs.Triplets.{tripletsTill, strainValue};
 use definition::OperatorAnswer;
-use definition::Reference;
 use definition::Structural2dFormulation;
 use definition::Verdict;
-
-// The strain values at a reference point of an element.
-pub fn strain_at(
-    family: usize,
-    nodes_rz: &[f64],
-    elements: &[u32],
-    element_index: usize,
-    reference: Reference,
-    formulation: Structural2dFormulation,
-) -> [f64; 72]
-    ensures { λ r. ⌜ r ≡ listed (strainEntry formulation (basisAt (gathered (record { family = family; nodes = now («nodes_rz» .entry); elements = now (elements .entry) }) «element_index») reference)) (nodesOf family) ⌝ }
-{
-    let e = mesh::element_coords(family, nodes_rz, elements, element_index);
-    rows::strain_values(formulation, e.count, &e.xy, reference)
-}
 
 // The triplets of strain, from the lists' first place on; their number.
 fn put_strain(
@@ -53,7 +34,7 @@ fn put_strain(
         let element_index = element_indices[p];
         let nodes = mesh::element_nodes(family, elements, element_index);
         let reference = lists::reference_at(reference_points, p);
-        let strain = strain_at(
+        let strain = rows::strain_at(
             family,
             nodes_rz,
             elements,

@@ -11,7 +11,8 @@ ghost use Rattle.definition.specs.Operators.{StressPromise};
 ghost use Rattle.definition.specs.Rows.{basisAt, stressEntry, orientedMaterial};
 ghost use Rattle.operator_questions.specs.Calls.{interpolationCall, stressCall};
 ghost use Rattle.triplets.specs.Strip.{strip, written};
-ghost use Rattle.sparse.specs.Triplets.{tripletsTill, stressValue, listed};
+ghost use Rattle.rows.specs.Values.{listed};
+ghost use Rattle.sparse.specs.Triplets.{tripletsTill, stressValue};
 use definition::OperatorAnswer;
 use definition::Reference;
 use definition::Structural2dFormulation;
@@ -39,7 +40,7 @@ fn stress_at(
         pairs,
         element_index,
     );
-    let strain = strain::strain_at(
+    let strain = rows::strain_at(
         family,
         nodes_rz,
         elements,

@@ -3,10 +3,10 @@ use mathlib.Core.Path.{_∙_, ap}
 use borrow.Author.Needs.{needs}
 use Rattle.definition.specs.Mesh.{Mesh, gathered}
 use Rattle.definition.specs.Rows.{basisAt, strainEntry}
-use Rattle.sparse.specs.Triplets.{listed}
-use Rattle.sparse.proofs.Filling.{nodes-gathered}
-use Rattle.strain.proofs.strain_at.Statement.{statement}
-use Rattle.strain.proofs.strain_at.Tie as tie
+use Rattle.rows.specs.Values.{listed}
+use Rattle.rows.proofs.Gathered.{nodes-gathered}
+use Rattle.rows.proofs.strain_at.Statement.{statement}
+use Rattle.rows.proofs.strain_at.Tie as tie
 
 returns : tie.Need-returns
 returns c =
