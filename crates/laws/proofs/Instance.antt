@@ -1,6 +1,6 @@
 -- An instance of demand 3: two squares, a point on their common side that ties, another that does not, and three permutations that move everything. It meets the hypotheses, and its conclusions are computed.
 -- Assumes nothing.
-use mathlib.Core.Path.{_≡_, refl, sym, _∙_}
+use mathlib.Core.Path.{_≡_, refl, sym, ap, _∙_}
 use mathlib.Core.Bool.{Bool, true, false, not, _&&_, _||_}
 use mathlib.Core.List.{List, [], _∷_}
 use Prim.Native.Nat.{ℕ, _+_, _-_, _*_, _%_, _<_}
@@ -8,16 +8,18 @@ use borrow.Author.Tests.{ltb-true, eqb-true}
 use lib.Dec.{ltb, eqb}
 use lib.ListN.{replicate, take}
 use lib.Ieee.{Float, binary64, round, lt, isNan, ofBits}
-use Rattle.definition.specs.Lists.{every}
+use Rattle.definition.specs.Lists.{every, each, over}
 use Rattle.definition.specs.Binary64.{plus0, one, two, minusOne, half, quarter}
 use Rattle.definition.specs.Mesh.{Mesh, nodeCount, elementCount, pairCount, pairAt}
 use Rattle.definition.specs.Choice.{nodeDistance, elementDistance, faceDistance}
 use Rattle.definition.specs.Questions.{Outcome, accepted}
-use Rattle.definition.specs.Query.{QueryCall, QueryLists, QueryCounts, queried, queryLists}
+use Rattle.definition.specs.Query.{QueryCall, QueryLists, QueryCounts, queried, queryLists, answerAt, answersOver}
 use Rattle.definition.specs.Operators.{InterpolationCall, TripletLists, OperatorCounts, operated, tripletLists, interpolation}
 use Rattle.definition.specs.Rows.{Triplet}
 use Rattle.definition.specs.Renumbering.{Permutation, Renumbering, SameLengths, NoNan, QueryKept, Nearest, JustOneNearest, tripletsOf, TwoOperators, OperatorKept, moveList, renumberedQuery, ComputedQueries}
 use Rattle.definition.specs.declared.Point.{Point}
+use Rattle.definition.specs.declared.PointAnswer.{PointAnswer}
+use Rattle.definition.specs.declared.ElementProjection.{ElementProjection}
 use Rattle.definition.specs.declared.QueryAnswer.the-variants.{Accepted}
 use Rattle.definition.specs.declared.OperatorAnswer.the-variants.{Built}
 use Rattle.definition.proofs.Computing.{querying, operating}
@@ -213,6 +215,22 @@ shown l = (
   l .nodeDistances ∷ l .elementDistances ∷ l .faceDistances ∷ [],
 )
 
+-- the same, of the answers at the two points: each is then computed once, and not once a list
+abbrev shownOf : PointAnswer → PointAnswer → List (List ℕ) × List Float × List (List Float)
+shownOf a b = (
+  (a .node .«node_index» ∷ b .node .«node_index» ∷ [])
+      ∷ (a .element .«element_index» ∷ b .element .«element_index» ∷ [])
+      ∷ (a .face .«element_index» ∷ b .face .«element_index» ∷ [])
+      ∷ (a .face .«local_face» ∷ b .face .«local_face» ∷ [])
+      ∷ [],
+  a .element .reference .xi ∷ a .element .reference .eta ∷ b .element .reference .xi ∷ b .element .reference .eta ∷ [],
+  (a .node .distance ∷ b .node .distance ∷ []) ∷ (a .element .distance ∷ b .element .distance ∷ []) ∷ (a .face .distance ∷ b .face .distance ∷ []) ∷ [],
+)
+
+shown-of : (q : QueryCall) → twoPoints ≡ queried q (nines 2) → shown (left q) ≡ shownOf (answerAt q 0) (answerAt q 1)
+unfolding answersOver each over
+shown-of q e = ap (λ o. shown (queryLists q o (nines 2))) (sym e)
+
 abbrev rootTwo : Float
 rootTwo = ofBits binary64 0x3ff6a09e667f3bcd
 
@@ -223,7 +241,7 @@ tied-before : shown (left tied)
       (one ∷ rootTwo ∷ []) ∷ (plus0 ∷ one ∷ []) ∷ (plus0 ∷ one ∷ []) ∷ [],
     )
 unfolding querying
-tied-before = refl
+tied-before = shown-of tied tied-accepted
 
 -- The points have changed places. (5, 1) names the old node 5, which is now 0 and the first of two that tie, and the old element 1, now 0.
 -- (2, 1) names the old node 1, now 2, and of the two elements that tie the old element 1, which is now the first, at (-1, 0), and its left face.
@@ -234,7 +252,7 @@ tied-after : shown (left tied')
       (rootTwo ∷ one ∷ []) ∷ (one ∷ plus0 ∷ []) ∷ (one ∷ plus0 ∷ []) ∷ [],
     )
 unfolding tied-order order moveList querying
-tied-after = refl
+tied-after = shown-of tied' tied-accepted'
 
 -- ---- an operator, at two points that have just one nearest element each
 
@@ -306,26 +324,52 @@ single-runs =
     }
 
 -- interpolation on what each query handed out
+abbrev handedFrom : Mesh → QueryLists → InterpolationCall
+handedFrom m l = record { mesh = m; elementIndices = take 2 (l .elementIndices); referencePoints = take 4 (l .elementReferences) }
+
 abbrev handed : QueryCall → InterpolationCall
-handed q = record { mesh = q .mesh; elementIndices = take 2 (left q .elementIndices); referencePoints = take 4 (left q .elementReferences) }
+handed q = handedFrom (q .mesh) (left q)
+
+-- the same, of the elements that the two points name
+abbrev named : Mesh → ElementProjection → ElementProjection → InterpolationCall
+named m a b = record { mesh = m; elementIndices = a .«element_index» ∷ b .«element_index» ∷ []; referencePoints = a .reference .xi ∷ a .reference .eta ∷ b .reference .xi ∷ b .reference .eta ∷ [] }
+
+handed-of : (q : QueryCall) → noneInside ≡ queried q (nines 2) → handed q ≡ named (q .mesh) (answerAt q 0 .element) (answerAt q 1 .element)
+unfolding answersOver each over
+handed-of q e = ap (λ o. handedFrom (q .mesh) (queryLists q o (nines 2))) (sym e)
+
+-- both queries name element 0 and then element 1, on the line η = 0
+abbrev middles : Mesh → Float → Float → InterpolationCall
+middles m ξ ξ' = record { mesh = m; elementIndices = 0 ∷ 1 ∷ []; referencePoints = ξ ∷ plus0 ∷ ξ' ∷ plus0 ∷ [] }
+
+single-handed : handed single ≡ middles squares plus0 one
+unfolding querying
+single-handed = handed-of single single-accepted
+
+single-handed' : handed single' ≡ middles (single' .mesh) one plus0
+unfolding single-order order moveList querying
+single-handed' = handed-of single' single-accepted'
 
 abbrev lent : TripletLists
 lent = record { rows = replicate 8 9; columns = replicate 8 9; values = replicate 8 (number 9) }
 
+abbrev written : InterpolationCall → TripletLists
+written c = tripletLists (interpolation c lent) (operated (interpolation c lent)) lent
+
 abbrev interpolated : QueryCall → TripletLists
-interpolated q = tripletLists (interpolation (handed q) lent) (operated (interpolation (handed q) lent)) lent
+interpolated q = written (handed q)
 
 -- two points, six nodes, six triplets
 abbrev sixTriplets : Outcome OperatorCounts
 sixTriplets = accepted (record { rows = 2; columns = 6; triplets = 6 })
 
 interpolation-accepted : sixTriplets ≡ operated (interpolation (handed single) lent)
-unfolding querying operating
-interpolation-accepted = refl
+unfolding operating
+interpolation-accepted = ap (λ c. operated (interpolation c lent)) (sym single-handed)
 
 interpolation-accepted' : sixTriplets ≡ operated (interpolation (handed single') lent)
-unfolding single-order order moveList querying operating
-interpolation-accepted' = refl
+unfolding single-order order moveList operating
+interpolation-accepted' = ap (λ c. operated (interpolation c lent)) (sym single-handed')
 
 interpolation-runs : TwoOperators single single' (left single) (left single') 2 (handed single) (handed single') (interpolation (handed single)) (interpolation (handed single'))
 interpolation-runs =
@@ -353,11 +397,11 @@ triplet r c v = record { row = r; column = c; value = v }
 
 triplets-before : tripletsOf (interpolated single) 6
     ≡ triplet 0 0 quarter ∷ triplet 0 1 quarter ∷ triplet 0 2 quarter ∷ triplet 0 3 quarter ∷ triplet 1 4 half ∷ triplet 1 5 half ∷ []
-unfolding querying operating
-triplets-before = refl
+unfolding operating
+triplets-before = ap (λ c. tripletsOf (written c) 6) single-handed
 
 -- point 1 is point 0, and node i is node i + 1, node 5 node 0
 triplets-after : tripletsOf (interpolated single') 6
     ≡ triplet 0 5 half ∷ triplet 0 0 half ∷ triplet 1 1 quarter ∷ triplet 1 2 quarter ∷ triplet 1 3 quarter ∷ triplet 1 4 quarter ∷ []
-unfolding single-order order moveList querying operating
-triplets-after = refl
+unfolding single-order order moveList operating
+triplets-after = ap (λ c. tripletsOf (written c) 6) single-handed'

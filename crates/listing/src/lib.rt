@@ -80,38 +80,44 @@ fn put_float(x: f64, end: u8, out: &mut [u8], at: usize) -> usize
 }
 
 // The line of a refusal: its question's number and its place. At most 17 bytes for a number below 100 and a place below 100,000.
-pub fn put_refusal(question: u8, place: usize, out: &mut [u8], at: usize) -> usize
+pub fn put_refusal(question: u8, place: usize, out: &mut [u8], mut at: usize) -> usize
     ensures { λ r. ⌜ page (now (out .exit)) r ≡ typed (page (now (out .entry)) at) (refusalLine question place) ⌝ }
 {
-    let at = put_text(b"refused ", out, at);
-    let at = put_number(question as usize, b' ', out, at);
+    at = put_text(b"refused ", out, at);
+    at = put_number(question as usize, b' ', out, at);
     put_number(place, b'\n', out, at)
 }
 
 // The first line of a query's listing: points, elements with repeated nodes, points inside. At most 18 bytes for counts below 1,000.
-pub fn put_counts(points: usize, repeated: usize, inside: usize, out: &mut [u8], at: usize) -> usize
+pub fn put_counts(
+    points: usize,
+    repeated: usize,
+    inside: usize,
+    out: &mut [u8],
+    mut at: usize,
+) -> usize
     ensures { λ r. ⌜ page (now (out .exit)) r ≡ typed (page (now (out .entry)) at) (countsLine (record { points = points; repeated = repeated; inside = inside })) ⌝ }
 {
-    let at = put_text(b"query ", out, at);
-    let at = put_number(points, b' ', out, at);
-    let at = put_number(repeated, b' ', out, at);
+    at = put_text(b"query ", out, at);
+    at = put_number(points, b' ', out, at);
+    at = put_number(repeated, b' ', out, at);
     put_number(inside, b'\n', out, at)
 }
 
 // The line of point p: its index, node, node distance, element, xi, eta, distance, face's element, face, s, distance.
 // At most 120 bytes for an index, a node and elements below 1,000 and a face below 10.
-pub fn put_point(p: usize, a: PointAnswer, out: &mut [u8], at: usize) -> usize
+pub fn put_point(p: usize, a: PointAnswer, out: &mut [u8], mut at: usize) -> usize
     ensures { λ r. ⌜ page (now (out .exit)) r ≡ typed (page (now (out .entry)) at) (pointLine p a) ⌝ }
 {
-    let at = put_number(p, b' ', out, at);
-    let at = put_number(a.node.node_index, b' ', out, at);
-    let at = put_float(a.node.distance, b' ', out, at);
-    let at = put_number(a.element.element_index, b' ', out, at);
-    let at = put_float(a.element.reference.xi, b' ', out, at);
-    let at = put_float(a.element.reference.eta, b' ', out, at);
-    let at = put_float(a.element.distance, b' ', out, at);
-    let at = put_number(a.face.element_index, b' ', out, at);
-    let at = put_number(a.face.local_face as usize, b' ', out, at);
-    let at = put_float(a.face.s, b' ', out, at);
+    at = put_number(p, b' ', out, at);
+    at = put_number(a.node.node_index, b' ', out, at);
+    at = put_float(a.node.distance, b' ', out, at);
+    at = put_number(a.element.element_index, b' ', out, at);
+    at = put_float(a.element.reference.xi, b' ', out, at);
+    at = put_float(a.element.reference.eta, b' ', out, at);
+    at = put_float(a.element.distance, b' ', out, at);
+    at = put_number(a.face.element_index, b' ', out, at);
+    at = put_number(a.face.local_face as usize, b' ', out, at);
+    at = put_float(a.face.s, b' ', out, at);
     put_float(a.face.distance, b'\n', out, at)
 }

@@ -2,9 +2,9 @@
 // A material is sixteen numbers, four rows of four, for the components rr, zz, tt and rz (xx, yy, zz and xy). Every call has an answer for every list and every number.
 ghost use mathlib.Core.Path.{_≡_};
 ghost use mathlib.Core.Bool.{_&&_};
-ghost use Prim.Native.Nat.{_+_, _*_, _≤_, _<_, min};
-ghost use lib.ListN.{length, getD};
-ghost use lib.Ieee.{nan, eq};
+ghost use Prim.Native.Nat.{_+_, _*_, _≤_, _<_};
+ghost use lib.ListN.{length};
+ghost use lib.Ieee.{eq};
 ghost use Rattle.definition.specs.Lists.{over};
 ghost use Rattle.definition.specs.Binary64.{plus0, one};
 ghost use Rattle.definition.specs.Elements.{nodesOf};
@@ -47,6 +47,21 @@ fn four_terms(a: &[f64; 16], i: usize, b0: f64, b1: f64, b2: f64, b3: f64) -> f6
     0.0 + a[k] * b0 + a[k + 1] * b1 + a[k + 2] * b2 + a[k + 3] * b3
 }
 
+// Row i of a, times column t of the matrix b of four rows.
+fn entry(a: &[f64; 16], b: &[f64], columns: usize, i: usize, t: usize) -> f64
+    requires { ⌜ (4 * columns ≤ length (now b)) × (i < 4) × (t < columns) ⌝ }
+    ensures { λ r. ⌜ r ≡ entryOf (now (a .entry)) (now (b .entry)) columns i t ⌝ }
+{
+    four_terms(
+        a,
+        i,
+        b[t],
+        b[columns + t],
+        b[2 * columns + t],
+        b[3 * columns + t],
+    )
+}
+
 // Row i of a, times the matrix b of four rows, into the places of row i.
 fn put_row(a: &[f64; 16], b: &[f64], columns: usize, i: usize, out: &mut [f64])
     requires { ⌜ (4 * columns ≤ length (now b)) × (4 * columns ≤ length (now out)) × (i < 4) ⌝ }
@@ -55,14 +70,7 @@ fn put_row(a: &[f64; 16], b: &[f64], columns: usize, i: usize, out: &mut [f64])
     let start = columns * i;
     let mut t: usize = 0;
     while t < columns {
-        out[start + t] = four_terms(
-            a,
-            i,
-            b[t],
-            b[columns + t],
-            b[2 * columns + t],
-            b[3 * columns + t],
-        );
+        out[start + t] = entry(a, b, columns, i, t);
         t += 1;
     }
 }

@@ -8,11 +8,11 @@ unfolding orientedMaterial
 returns c =
     let at-pair = c .before in
     let given = at-pair .before in
-    rw (given .if1 .taken, ← given .before .material-part .ensures) (rw (at-pair .pair-at .ensures) at (c .rotate-material-in-plane .ensures))
+    rw (given .if1 .taken) (rw (given .before .material-part .ensures, at-pair .pair-at .ensures) at (c .rotate-material-in-plane .ensures))
 
 returns-2 : tie.Need-returns-2
 unfolding orientedMaterial
-returns-2 c = rw (c .before .if1 .left, ← c .before .before .material-part .ensures) (c .copy-material .ensures)
+returns-2 c = rw (c .before .if1 .left) (rw (c .before .before .material-part .ensures) at (c .copy-material .ensures))
 
 pub oriented-material-spec : {M : Type 1} → statement M
 oriented-material-spec =

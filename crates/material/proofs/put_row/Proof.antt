@@ -24,10 +24,9 @@ loop-holds c =
     (omega arith, omega arith, refl, sym (over-from-none _ _ (omega arith)))
 
 loop-again : tie.Need-loop-again Inv-loop μ-loop
-unfolding entryOf
 loop-again c =
-    let turn = c .before .before .before .before .before .before .loop in
-    (omega arith, rw length-set (omega arith), rw length-set (turn .inv .2), rw (turn .inv .3, c .four-terms .ensures) (sym (over-from-value _ _ (turn .t) _ (omega arith))))
+    let turn = c .before .before .loop in
+    (omega arith, rw length-set (omega arith), rw length-set (turn .inv .2), rw (turn .inv .3, c .entry .ensures) (sym (over-from-value _ _ (turn .t) _ (omega arith))))
 
 returns : tie.Need-returns Inv-loop μ-loop
 returns c =
@@ -42,20 +41,7 @@ put-row-spec =
     μ-loop
     (λ c. omega (arith, part-fits (c .before .before .args .columns) (c .before .before .pre .2)))
     loop-holds
-    (λ c. omega arith)
-    (λ c. omega arith)
-    (λ c. omega arith)
-    (λ c. omega arith)
-    (λ c. omega arith)
-    (λ c. omega arith)
-    (λ c. omega arith)
-    (λ c. omega arith)
-    (λ c. omega arith)
-    (λ c. omega arith)
-    (λ c. omega arith)
-    (λ c. omega arith)
-    (λ c. omega arith)
-    (λ c κs. omega arith)
+    (λ c κs. (omega arith, omega arith, omega arith))
     (λ c. omega arith)
     (λ c. omega arith)
     (λ c. omega arith)
