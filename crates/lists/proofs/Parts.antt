@@ -13,8 +13,12 @@ use lib.Seq.{take-all, take-length, drop-length}
 pub part-begins : (f e len : ℕ) → e ≤ len / f → f * e ≤ len
 part-begins f e len h = omega (arith, mul-div-le len f, mul-le-mul-left f h)
 
-pub part-past : (f e len : ℕ) → 0 < f → len / f < e → len ≤ f * e
+pub part-past : (f e len : ℕ) → 0 < f → len / f < e → len < f * e
 part-past f e len some h = omega (arith, div-add-mod len f, mod-lt len some, rw mul-suc at (mul-le-mul-left f h))
+
+-- part i of n parts ends within them
+pub part-fits : (f : ℕ) {i n : ℕ} → i < n → f * i + f ≤ f * n
+part-fits f h = rw mul-suc at (mul-le-mul-left f h)
 
 -- ---- the part of a list that starts at n and has k entries, as far as the list goes
 

@@ -2,7 +2,7 @@
 use mathlib.Core.Path.{_≡_}
 use mathlib.Core.List.{List, [], _∷_, _++_, append-assoc, append-nil}
 use Prim.Native.Nat.{ℕ, _+_, _*_, _≤_, _<_}
-use native.Mathlib.Nat.{add-assoc, mul-suc, mul-le-mul-left}
+use native.Mathlib.Nat.{add-assoc}
 use native.Mathlib.Omega.{arith}
 use lib.ListN.{length, set, take, take-append-drop, length-append}
 use lib.Seq.{length-take-le, drop-length, drop-append-add, drop-drop}
@@ -59,9 +59,6 @@ unfolding over
 over-whole new old h = rw (h, drop-length, append-nil)
 
 -- ---- parts of k entries each, one after the other
-
-pub part-fits : (k : ℕ) {i n : ℕ} → i < n → k * i + k ≤ k * n
-part-fits k h = rw mul-suc at (mul-le-mul-left k h)
 
 pub part-next : {A : Type 0} (g : ℕ → List A) (k i : ℕ) {before after : List A} (old : List A) → ((j : ℕ) → length (g j) ≡ k) →
     before ≡ over (each g i) old → after ≡ overFrom (k * i) (g i) before → after ≡ over (each g (i + 1)) old

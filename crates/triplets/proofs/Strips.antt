@@ -3,7 +3,7 @@ use mathlib.Core.Path.{_≡_, refl, ap, _∙_}
 use mathlib.Core.Bool.{true, false, cond, _&&_}
 use mathlib.Core.List.{List, [], _∷_, _++_, map, map-append, append-nil}
 use Prim.Native.Nat.{ℕ, _+_, _*_, _/_, _^_, _≤_, _<_}
-use native.Mathlib.Nat.{one-mul, add-zero, zero-add, mul-suc, mul-le-mul-left, mul-le-mul-right, mul-div-le, div-add-mod, mod-lt}
+use native.Mathlib.Nat.{one-mul, add-zero, zero-add, mul-le-mul-right}
 use native.Mathlib.Decide.{decLe}
 use native.Mathlib.Omega.{arith}
 use lib.Dec.{leb, ltb}
@@ -16,6 +16,7 @@ use Rattle.definition.specs.Elements.{nodesOf}
 use Rattle.definition.specs.Operators.{TripletLists, tripletsOver}
 use Rattle.definition.specs.Rows.{Triplet, kept, pointTriplets}
 use Rattle.definition.proofs.Lists.{each-more, over-length, over-next}
+use Rattle.lists.proofs.Parts.{part-begins, part-past}
 use Rattle.triplets.specs.Strip.{Strip, strip, stored, written}
 
 written-append : (s : Strip) (a b : List Triplet) → written (written s a) b ≡ written s (a ++ b)
@@ -49,10 +50,6 @@ written-keeps s (t ∷ ts) e = written-keeps (stored s t) ts e ∙ stored-keeps 
 -- a column's number is far below the largest
 pub column-fits : {c node : ℕ} → c ≤ 2 → node < 2 ^ 32 → c * node < 2 ^ 33
 column-fits {c} {node} h l = omega (arith, mul-le-mul-right node h)
-
--- part j of n parts of c numbers each ends within them
-pub part-fits : (c : ℕ) {j n : ℕ} → j < n → c * j + c ≤ c * n
-part-fits c {j} {n} l = omega (arith, mul-le-mul-left c l)
 
 -- ---- the row of one component
 
@@ -101,8 +98,8 @@ module _ (l : TripletLists) where
 pub room-divides : (k n len : ℕ) → 0 < k → leb n (len / k) ≡ leb (k * n) len
 room-divides k n len some =
     elim (decLe n (len / k)) [
-      | yes h ↦ rw (le-leb n (len / k) h, le-leb (k * n) len (omega (arith, mul-div-le len k, mul-le-mul-left k h)))
+      | yes h ↦ rw (le-leb n (len / k) h, le-leb (k * n) len (part-begins k n len h))
       | no h ↦
           let more : len / k < n = omega arith in
-          rw (lt-leb n (len / k) more, lt-leb (k * n) len (omega (arith, div-add-mod len k, mod-lt len some, rw mul-suc at (mul-le-mul-left k more))))
+          rw (lt-leb n (len / k) more, lt-leb (k * n) len (part-past k n len some more))
     ]

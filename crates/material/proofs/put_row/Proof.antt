@@ -6,7 +6,8 @@ use lib.ListN.{length, length-set}
 use Rattle.definition.specs.Lists.{each}
 use Rattle.definition.specs.Query.{values}
 use Rattle.material.specs.Products.{overFrom, entryOf}
-use Rattle.material.proofs.Writing.{part-fits, over-from-none, over-from-value}
+use Rattle.lists.proofs.Parts.{part-fits}
+use Rattle.material.proofs.Writing.{over-from-none, over-from-value}
 use Rattle.material.proofs.put_row.Statement.{statement}
 use Rattle.material.proofs.put_row.Tie as tie
 

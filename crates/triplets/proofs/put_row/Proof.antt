@@ -7,8 +7,9 @@ use lib.ListN.{length, getD}
 use lib.Ieee.{nan}
 use Rattle.definition.specs.Lists.{each}
 use Rattle.definition.specs.Rows.{kept}
+use Rattle.lists.proofs.Parts.{part-fits}
 use Rattle.triplets.specs.Strip.{strip, written}
-use Rattle.triplets.proofs.Strips.{lengths, written-each, written-keeps, part-fits}
+use Rattle.triplets.proofs.Strips.{lengths, written-each, written-keeps}
 use Rattle.triplets.proofs.put_row.Statement.{statement}
 use Rattle.triplets.proofs.put_row.Tie as tie
 
