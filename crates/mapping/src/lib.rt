@@ -96,12 +96,33 @@ pub fn jacobian(family: usize, coords: &[f64; 18], grad: &[f64; 18]) -> Jacobian
     }
 }
 
+// ---- at a reference
+// A whole arm for each family, from N to the sums, is straight code; (xi, eta) goes below as two numbers, which the compiler keeps in registers.
+
+fn point4(coords: &[f64; 18], xi: f64, eta: f64) -> Point
+    ensures { λ r. ⌜ r ≡ pointAt (element 4 (now (coords .entry))) (record { xi = xi; eta = eta }) ⌝ }
+{
+    let n = elements::shape(4, xi, eta);
+    point_sum(4, coords, &n)
+}
+
+fn point9(coords: &[f64; 18], xi: f64, eta: f64) -> Point
+    ensures { λ r. ⌜ r ≡ pointAt (element 9 (now (coords .entry))) (record { xi = xi; eta = eta }) ⌝ }
+{
+    let n = elements::shape(9, xi, eta);
+    point_sum(9, coords, &n)
+}
+
 // The point of an element at a reference.
 pub fn point_at(family: usize, coords: &[f64; 18], reference: Reference) -> Point
     ensures { λ r. ⌜ r ≡ pointAt (element family (now (coords .entry))) reference ⌝ }
 {
-    let n = elements::shape(family, reference.xi, reference.eta);
-    map_point(family, coords, &n)
+    let Reference { xi, eta } = reference;
+    if family == 9 {
+        point9(coords, xi, eta)
+    } else {
+        point4(coords, xi, eta)
+    }
 }
 
 // What one step of a search needs: the point of an element at a reference, and the Jacobian there.
@@ -110,15 +131,40 @@ pub struct Frame {
     pub jacobian: JacobianMatrix,
 }
 
-// N and the gradients are made side by side, and `point_at` is not called: the compiler then makes the polynomials that both have but once.
+// The frame of family 4 alone. N and the gradients are made side by side: the compiler then makes the polynomials that both have but once.
+pub fn frame4(coords: &[f64; 18], xi: f64, eta: f64) -> Frame
+    ensures { λ r. ⌜ r .point ≡ pointAt (element 4 (now (coords .entry))) (record { xi = xi; eta = eta }) ⌝ }
+    ensures { λ r. ⌜ r .jacobian ≡ jacobianAt (element 4 (now (coords .entry))) (record { xi = xi; eta = eta }) ⌝ }
+{
+    let n = elements::shape(4, xi, eta);
+    let grad = elements::grad_ref(4, xi, eta);
+    Frame {
+        point: point_sum(4, coords, &n),
+        jacobian: jacobian_sum(4, coords, &grad),
+    }
+}
+
+// The frame of family 9 alone.
+pub fn frame9(coords: &[f64; 18], xi: f64, eta: f64) -> Frame
+    ensures { λ r. ⌜ r .point ≡ pointAt (element 9 (now (coords .entry))) (record { xi = xi; eta = eta }) ⌝ }
+    ensures { λ r. ⌜ r .jacobian ≡ jacobianAt (element 9 (now (coords .entry))) (record { xi = xi; eta = eta }) ⌝ }
+{
+    let n = elements::shape(9, xi, eta);
+    let grad = elements::grad_ref(9, xi, eta);
+    Frame {
+        point: point_sum(9, coords, &n),
+        jacobian: jacobian_sum(9, coords, &grad),
+    }
+}
+
 pub fn frame_at(family: usize, coords: &[f64; 18], reference: Reference) -> Frame
     ensures { λ r. ⌜ r .point ≡ pointAt (element family (now (coords .entry))) reference ⌝ }
     ensures { λ r. ⌜ r .jacobian ≡ jacobianAt (element family (now (coords .entry))) reference ⌝ }
 {
-    let n = elements::shape(family, reference.xi, reference.eta);
-    let grad = elements::grad_ref(family, reference.xi, reference.eta);
-    Frame {
-        point: map_point(family, coords, &n),
-        jacobian: jacobian(family, coords, &grad),
+    let Reference { xi, eta } = reference;
+    if family == 9 {
+        frame9(coords, xi, eta)
+    } else {
+        frame4(coords, xi, eta)
     }
 }

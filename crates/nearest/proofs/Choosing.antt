@@ -3,8 +3,12 @@ use mathlib.Core.Path.{_≡_, refl, ap, _∙_}
 use mathlib.Core.Bool.{Bool, true, false, cond}
 use Prim.Native.Nat.{ℕ, _+_}
 use native.Mathlib.Numerals.{add-one}
-use lib.Ieee.{Float, lt}
+use lib.Dec.{T, not-T}
+use lib.Ieee.{Float, binary64, fits, lt}
+use lib.Ieee.Bits.{is-false}
+use Rattle.definition.specs.Root.{rootOf}
 use Rattle.definition.specs.Choice.{pick}
+use Rattle.definition.proofs.Root.{root-not-lt}
 use Rattle.definition.proofs.Choice.{pick-more}
 
 pub pick-next : (d : ℕ → Float) (n : ℕ) → pick d (n + 1) ≡ cond (lt (d n) (d (pick d n))) n (pick d n)
@@ -30,3 +34,12 @@ chosen-more answer distance n p q = rw (p, q, pick-next (λ i. distance (answer 
     by : (b : Bool) → cond b (answer n) (answer (pick (λ i. distance (answer i)) n)) ≡ answer (cond b n (pick (λ i. distance (answer i)) n))
     by true = refl
     by false = refl
+
+-- what holds of both holds of the one that is kept
+pub of-either : {A : Type 0} (P : A → Type 0) (b : Bool) {x y : A} → P x → P y → P (cond b x y)
+of-either P true p q = p
+of-either P false p q = q
+
+-- the root keeps the order: where a square is not smaller, its root is not
+pub rooted-not-smaller : (x y : Float) → T (fits binary64 x) → T (fits binary64 y) → lt x y ≡ false → lt (rootOf x) (rootOf y) ≡ false
+rooted-not-smaller x y f g h = is-false (lt (rootOf x) (rootOf y)) (not-T (lt (rootOf x) (rootOf y)) (root-not-lt x y f g (λ t. rw h at t)))

@@ -2,45 +2,78 @@
 use mathlib.Core.Path.{_≡_, refl, ap, _∙_}
 use Prim.Native.Nat.{ℕ, _+_, _*_, _/_, _%_, _<_}
 use native.Mathlib.Omega.{arith}
-use Rattle.definition.specs.Choice.{pick, nodeSquare, nodeAnswer, elementAnswer, elementDistance, faceAnswer, faceDistance, pointAnswer}
+use lib.Ieee.{lt}
+use Rattle.definition.specs.Root.{rootOf}
+use Rattle.definition.specs.Choice.{pick, nodeSquare, nodeAnswer, elementDistance, faceDistance, pointAnswer}
 use Rattle.definition.specs.Mesh.{Mesh, nodeCount, elementCount, gathered}
 use Rattle.definition.specs.Search.{closestReferencePoint, closestFacePoint}
 use Rattle.definition.specs.declared.Point.{Point}
 use Rattle.definition.specs.declared.GatheredElement.{GatheredElement}
 use Rattle.definition.specs.declared.NodeProjection.{NodeProjection}
-use Rattle.definition.specs.declared.ElementProjection.{ElementProjection}
-use Rattle.definition.specs.declared.FaceProjection.{FaceProjection}
-use Rattle.nearest.specs.Nearest.{nearerElement, nearerFace, otherFaces}
-use Rattle.nearest.proofs.Choosing.{chosen-more}
+use Rattle.definition.specs.declared.PointAnswer.{PointAnswer}
+use Rattle.nearest.specs.Nearest.{elementNear, faceNear, nearerElement, nearerFace, otherFaces, nearerOf}
+use Rattle.nearest.specs.declared.NearElement.{NearElement}
+use Rattle.nearest.specs.declared.NearFace.{NearFace}
+use Rattle.nearest.specs.declared.Walk.{Walk}
+use Rattle.nearest.proofs.Choosing.{chosen-more, of-either}
+
+-- ---- each distance is the root of the square beside it
+
+abbrev pub RootedElement : NearElement → Type 0
+RootedElement n = n .projection .distance ≡ rootOf (n .square)
+
+abbrev pub RootedFace : NearFace → Type 0
+RootedFace n = n .projection .distance ≡ rootOf (n .square)
+
+pub rooted-face : (best next : NearFace) → RootedFace best → RootedFace next → RootedFace (nearerFace best next)
+unfolding nearerFace
+rooted-face best next p q = of-either RootedFace (lt (next .projection .distance) (best .projection .distance)) q p
+
+-- ---- the walks
 
 module _ (m : Mesh) (limit : ℕ) (t : Point) where
-  pub next-element : (i : ℕ) {e : GatheredElement} {best next : ElementProjection} → e ≡ gathered m i → next ≡ nearerElement best (closestReferencePoint e i t limit) → best ≡ elementAnswer m limit t (pick (elementDistance m limit t) i) →
-      next ≡ elementAnswer m limit t (pick (elementDistance m limit t) (i + 1))
-  unfolding nearerElement
-  next-element i g n p = rw (n, g) (chosen-more (elementAnswer m limit t) (λ a. a .distance) i p refl)
+  abbrev element : ℕ → NearElement
+  element i = elementNear (gathered m i) i t limit
+
+  abbrev face : ℕ → NearFace
+  face k = faceNear (gathered m (k / 4)) (k / 4) (k % 4) t limit
+
+  -- the best of the first i elements, and of their faces
+  abbrev pub walk : ℕ → Walk
+  walk i = record { element = element (pick (elementDistance m limit t) i); face = face (pick (faceDistance m limit t) (4 * i)) }
+
+  next-element : (i : ℕ) {best : NearElement} → best ≡ element (pick (elementDistance m limit t) i) →
+      nearerElement best (element i) ≡ element (pick (elementDistance m limit t) (i + 1))
+  unfolding nearerElement closestReferencePoint
+  next-element i p = chosen-more element (λ a. a .projection .distance) i p refl
 
   -- k faces have been met, and face f of element i is the next
-  next-face : (i f : ℕ) {k : ℕ} {best : FaceProjection} → f < 4 → k ≡ 4 * i + f → best ≡ faceAnswer m limit t (pick (faceDistance m limit t) k) →
-      nearerFace best (closestFacePoint (gathered m i) i f t limit) ≡ faceAnswer m limit t (pick (faceDistance m limit t) (k + 1))
-  unfolding nearerFace
+  next-face : (i f : ℕ) {k : ℕ} {best : NearFace} → f < 4 → k ≡ 4 * i + f → best ≡ face (pick (faceDistance m limit t) k) →
+      nearerFace best (faceNear (gathered m i) i f t limit) ≡ face (pick (faceDistance m limit t) (k + 1))
+  unfolding nearerFace closestFacePoint
   next-face i f {k} l n p =
       let e : k / 4 ≡ i = omega arith in
       let r : k % 4 ≡ f = omega arith in
-      chosen-more (faceAnswer m limit t) (λ a. a .distance) k p (rw (e, r))
+      chosen-more face (λ a. a .projection .distance) k p (rw (e, r))
 
-  pub first-face : (i : ℕ) {e : GatheredElement} {best next : FaceProjection} → e ≡ gathered m i → next ≡ nearerFace best (closestFacePoint e i 0 t limit) → best ≡ faceAnswer m limit t (pick (faceDistance m limit t) (4 * i)) →
-      next ≡ faceAnswer m limit t (pick (faceDistance m limit t) (4 * i + 1))
-  first-face i g n p = rw (n, g) (next-face i 0 (omega arith) (omega arith) p)
-
-  pub next-faces : (i : ℕ) {e : GatheredElement} {best next : FaceProjection} → e ≡ gathered m i → next ≡ otherFaces best e i t limit → best ≡ faceAnswer m limit t (pick (faceDistance m limit t) (4 * i + 1)) →
-      next ≡ faceAnswer m limit t (pick (faceDistance m limit t) (4 * (i + 1)))
+  next-faces : (i : ℕ) {best : NearFace} → best ≡ face (pick (faceDistance m limit t) (4 * i + 1)) → otherFaces best (gathered m i) i t limit ≡ face (pick (faceDistance m limit t) (4 * (i + 1)))
   unfolding otherFaces
-  next-faces i g n p =
+  next-faces i p =
       let all : 4 * i + 1 + 1 + 1 + 1 ≡ 4 * (i + 1) = omega arith in
-      rw (n, g) (next-face i 3 (omega arith) (omega arith) (next-face i 2 (omega arith) (omega arith) (next-face i 1 (omega arith) (omega arith) p)) ∙ ap (λ n. faceAnswer m limit t (pick (faceDistance m limit t) n)) all)
+      next-face i 3 (omega arith) (omega arith) (next-face i 2 (omega arith) (omega arith) (next-face i 1 (omega arith) (omega arith) p)) ∙ ap (λ n. face (pick (faceDistance m limit t) n)) all
 
-  -- the three walks to their ends
-  pub point-answered : {n : ℕ} {node : NodeProjection} {element : ElementProjection} {face : FaceProjection} → n ≡ elementCount m → node ≡ nodeAnswer m limit t (pick (nodeSquare m limit t) (nodeCount m)) → element ≡ elementAnswer m limit t (pick (elementDistance m limit t) n) → face ≡ faceAnswer m limit t (pick (faceDistance m limit t) (4 * n)) →
-      record { node = node; element = element; face = face } ≡ pointAnswer m limit t
-  unfolding pointAnswer
-  point-answered n p q r = rw (p, q, r, n)
+  pub walk-begins : {e : GatheredElement} {w : Walk} → e ≡ gathered m 0 → w ≡ record { element = elementNear e 0 t limit; face = faceNear e 0 0 t limit } → w ≡ walk 0
+  unfolding pick
+  walk-begins g h = h ∙ (rw g)
+
+  pub first-walked : {e : GatheredElement} {w n : Walk} → e ≡ gathered m 0 → w ≡ walk 0 → n ≡ record { element = w .element; face = otherFaces (w .face) e 0 t limit } → n ≡ walk 1
+  unfolding pick
+  first-walked g p h = h ∙ (rw (p, g, next-faces 0 refl))
+
+  pub walked-on : (i : ℕ) {e : GatheredElement} {w n : Walk} → e ≡ gathered m i → w ≡ walk i → n ≡ nearerOf w e i t limit → n ≡ walk (i + 1)
+  walked-on i g p h = h ∙ (rw (p, g, next-element i refl, next-face i 0 {k = 4 * i} (omega arith) (omega arith) refl, next-faces i refl))
+
+  -- the walks to their ends
+  pub point-answered : {n : ℕ} {node : NodeProjection} {w : Walk} {r : PointAnswer} → n ≡ elementCount m → node ≡ nodeAnswer m limit t (pick (nodeSquare m limit t) (nodeCount m)) → w ≡ walk n → r ≡ record { node = node; element = w .element .projection; face = w .face .projection } → r ≡ pointAnswer m limit t
+  unfolding pointAnswer closestReferencePoint closestFacePoint
+  point-answered n p q h = h ∙ (rw (p, q, n))

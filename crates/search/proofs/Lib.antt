@@ -1,3 +1,3 @@
-pub mod Seeds
+pub mod Memory
 pub mod Steps
 pub mod Tried

@@ -1,5 +1,5 @@
 // The element search and the face search: `closest_reference_point` and `closest_face_point`.
-// It knows the definition, the elements and their map, and the root; nothing of a mesh.
+// It knows the definition, the elements and their map, the places and the root; nothing of a mesh.
 
 use definition::ElementProjection;
 use definition::FaceProjection;
@@ -7,15 +7,19 @@ use definition::GatheredElement;
 use definition::JacobianMatrix;
 use definition::Point;
 use definition::Reference;
+use mapping::Frame;
+use places::ElementBest;
+use places::FaceBest;
 ghost use mathlib.Core.Path.{_≡_};
-ghost use Prim.Native.Nat.{_<_};
-ghost use lib.Ieee.{le};
+ghost use mathlib.Core.Bool.{true, false, _||_};
+ghost use lib.Ieee.{lt, le};
 ghost use lib.ListN.{getD};
 ghost use Rattle.definition.specs.Binary64.{plus0, clampOf, magnitude};
-ghost use Rattle.definition.specs.Mapping.{pointAt};
+ghost use Rattle.definition.specs.Mapping.{pointAt, jacobianAt};
 ghost use Rattle.definition.specs.Search.{hessianDet, nextReference, tangentSquare, nextS, walked, placed, reference, elementStep, elementSeeds, elementBest, faceStep, facePoint, faceSeeds, faceBest, closestReferencePoint, closestFacePoint};
 ghost use Rattle.mapping.specs.Element.{element};
-ghost use Rattle.search.specs.Search.{elementPlace, facePlace};
+ghost use Rattle.places.specs.Places.{elementPlace, facePlace, ofElement, ofFace};
+ghost use Rattle.search.specs.Search.{chosen, Stepped, Remembered};
 
 // 2^-46: no step is made where the determinant of J transposed times J is at most this in magnitude.
 const SINGULAR: f64 = 1.4210854715202004e-14;
@@ -25,20 +29,6 @@ const SHORT_SQUARE: f64 = 4.930380657631324e-32;
 
 // 2^-52: no step is made on a face whose squared tangent is at most this, and a step of at most this is the last.
 const EPSILON: f64 = 2.220446049250313e-16;
-
-// The best reference so far, its point and the point's squared distance from the target.
-struct ElementBest {
-    reference: Reference,
-    point: Point,
-    square: f64,
-}
-
-// The best coordinate of a face so far, its point and the point's squared distance from the target.
-struct FaceBest {
-    s: f64,
-    point: Point,
-    square: f64,
-}
 
 // Within [-1, 1], and -1 for NaN.
 fn clamp(x: f64) -> f64
@@ -57,6 +47,77 @@ fn within(x: f64, bound: f64) -> bool
 {
     if x < 0.0 { -x <= bound } else { x <= bound }
 }
+
+// ---- what both searches share
+
+// Whether two numbers are one, to the bit: the zeros differ, and a NaN is not compared.
+fn same(a: f64, b: f64) -> bool
+    ensures { λ r. ⌜ (r ≡ true → a ≡ b) ⌝ }
+{
+    if a == b {
+        f64::to_bits(a) == f64::to_bits(b)
+    } else {
+        false
+    }
+}
+
+fn same_reference(a: Reference, b: Reference) -> bool
+    ensures { λ r. ⌜ (r ≡ true → a ≡ b) ⌝ }
+{
+    if same(a.xi, b.xi) {
+        same(a.eta, b.eta)
+    } else {
+        false
+    }
+}
+
+// Whether a step is remembered that is made from s.
+fn is_known(known: bool, s: f64, from: f64) -> bool
+    ensures { λ r. ⌜ (r ≡ true → (known ≡ true) × (s ≡ from)) ⌝ }
+{
+    if known { same(s, from) } else { false }
+}
+
+fn is_known_reference(known: bool, r: Reference, from: Reference) -> bool
+    ensures { λ b. ⌜ (b ≡ true → (known ≡ true) × (r ≡ from)) ⌝ }
+{
+    if known {
+        same_reference(r, from)
+    } else {
+        false
+    }
+}
+
+// Whether a place is the first, or has a smaller square than the best.
+fn is_taken(first: bool, square: f64, best_square: f64) -> bool
+    ensures { λ r. ⌜ r ≡ first || lt square «best_square» ⌝ }
+{
+    if first { true } else { square < best_square }
+}
+
+// `point_at`. Family 4 by its number is short enough for the compiler to put it in line.
+fn point_of(count: usize, xy: &[f64; 18], r: Reference) -> Point
+    ensures { λ p. ⌜ p ≡ pointAt (element count (now (xy .entry))) r ⌝ }
+{
+    if count == 4 {
+        mapping::point_at(4, xy, r)
+    } else {
+        mapping::point_at(count, xy, r)
+    }
+}
+
+// `frame_at`, with the families apart: the compiler puts that of family 4 in line and calls that of family 9.
+fn frame_of(count: usize, xy: &[f64; 18], r: Reference) -> Frame
+    ensures { λ f. ⌜ (f .point ≡ pointAt (element count (now (xy .entry))) r) × (f .jacobian ≡ jacobianAt (element count (now (xy .entry))) r) ⌝ }
+{
+    if count == 9 {
+        mapping::frame9(xy, r.xi, r.eta)
+    } else {
+        mapping::frame4(xy, r.xi, r.eta)
+    }
+}
+
+// ---- element
 
 // The determinant of J transposed times J.
 fn hessian_det(j: JacobianMatrix) -> f64
@@ -97,43 +158,89 @@ fn next_reference(j: JacobianMatrix, det: f64, u: f64, v: f64, r: Reference) -> 
     Reference { xi, eta }
 }
 
-// At most `left` steps from r.
+// What one step from a reference comes to: the reference after it, and whether the seed's steps end there.
+struct ElementStep {
+    next: Reference,
+    ended: bool,
+}
+
+fn element_step(count: usize, xy: &[f64; 18], target: Point, r: Reference) -> ElementStep
+    ensures { λ s. ⌜ Stepped (elementStep (element count (now (xy .entry))) target) r (s .next) (s .ended) ⌝ }
+{
+    let f = frame_of(count, xy, r);
+    let det = hessian_det(f.jacobian);
+    if within(det, SINGULAR) {
+        return ElementStep {
+            next: r,
+            ended: true,
+        };
+    }
+    let next = next_reference(
+        f.jacobian,
+        det,
+        f.point.x - target.x,
+        f.point.y - target.y,
+        r,
+    );
+    let length = root::squared_distance(r.xi, r.eta, next.xi, next.eta);
+    ElementStep {
+        next,
+        ended: length <= SHORT_SQUARE,
+    }
+}
+
+// A step that ended the steps of a seed. Nothing is remembered where `known` is false.
+struct ElementMemory {
+    known: bool,
+    from: Reference,
+    to: Reference,
+}
+
+// Where the steps of a seed end, and what is remembered.
+struct ElementEnd {
+    at: Reference,
+    memory: ElementMemory,
+}
+
+// At most `left` steps from r. Most seeds come to the same corner of a distant element and end there: the step from it is made for the first of them.
 fn element_walk(
     count: usize,
     xy: &[f64; 18],
     target: Point,
     mut left: usize,
     mut r: Reference,
-) -> Reference
-    ensures { λ n. ⌜ n ≡ walked (elementStep (element count (now (xy .entry))) target) left r ⌝ }
+    mut memory: ElementMemory,
+) -> ElementEnd
+    requires { ⌜ Remembered (elementStep (element count (now xy)) target) (memory .known) (memory .from) (memory .to) ⌝ }
+    ensures { λ n. ⌜ n .at ≡ walked (elementStep (element count (now (xy .entry))) target) left r ⌝ }
+    ensures { λ n. ⌜ Remembered (elementStep (element count (now (xy .entry))) target) (n .memory .known) (n .memory .from) (n .memory .to) ⌝ }
 {
     while 0 < left {
-        let f = mapping::frame_at(count, xy, r);
-        let det = hessian_det(f.jacobian);
-        if within(det, SINGULAR) {
+        if is_known_reference(memory.known, r, memory.from) {
+            r = memory.to;
             break;
         }
-        let n = next_reference(
-            f.jacobian,
-            det,
-            f.point.x - target.x,
-            f.point.y - target.y,
-            r,
-        );
-        let length = root::squared_distance(r.xi, r.eta, n.xi, n.eta);
-        r = n;
-        if length <= SHORT_SQUARE {
+        let step = element_step(count, xy, target, r);
+        let next = step.next;
+        if step.ended {
+            memory = ElementMemory {
+                known: true,
+                from: r,
+                to: next,
+            };
+            r = next;
             break;
         }
+        r = next;
         left -= 1;
     }
-    r
+    ElementEnd { at: r, memory }
 }
 
 fn element_place(count: usize, xy: &[f64; 18], target: Point, r: Reference) -> ElementBest
     ensures { λ b. ⌜ b ≡ elementPlace (placed (pointAt (element count (now (xy .entry)))) target r) ⌝ }
 {
-    let point = mapping::point_at(count, xy, r);
+    let point = point_of(count, xy, r);
     let square = root::squared_distance(point.x, point.y, target.x, target.y);
     ElementBest {
         reference: r,
@@ -143,34 +250,86 @@ fn element_place(count: usize, xy: &[f64; 18], target: Point, r: Reference) -> E
 }
 
 // The seeds of the element search: centre, corners, midsides.
-const SEED_XI: [f64; 9] = [0.0, -1.0, 1.0, 1.0, -1.0, 0.0, 1.0, 0.0, -1.0];
-
-const SEED_ETA: [f64; 9] = [0.0, -1.0, -1.0, 1.0, 1.0, -1.0, 0.0, 1.0, 0.0];
-
 fn element_seed(i: usize) -> Reference
-    requires { ⌜ i < 9 ⌝ }
     ensures { λ r. ⌜ r ≡ getD elementSeeds i (reference plus0 plus0) ⌝ }
 {
-    Reference {
-        xi: SEED_XI[i],
-        eta: SEED_ETA[i],
+    match i {
+        1 => Reference {
+            xi: -1.0,
+            eta: -1.0,
+        },
+        2 => Reference { xi: 1.0, eta: -1.0 },
+        3 => Reference { xi: 1.0, eta: 1.0 },
+        4 => Reference { xi: -1.0, eta: 1.0 },
+        5 => Reference { xi: 0.0, eta: -1.0 },
+        6 => Reference { xi: 1.0, eta: 0.0 },
+        7 => Reference { xi: 0.0, eta: 1.0 },
+        8 => Reference { xi: -1.0, eta: 0.0 },
+        _ => Reference { xi: 0.0, eta: 0.0 },
     }
 }
 
-fn element_best(count: usize, xy: &[f64; 18], target: Point, limit: usize) -> ElementBest
-    ensures { λ b. ⌜ b ≡ elementPlace (elementBest (element count (now (xy .entry))) target limit) ⌝ }
+// The best so far, or the place at r where that is the first or has a smaller square. A place at the best's own reference has the best's square, and is not worked out.
+fn better_element(
+    first: bool,
+    best: ElementBest,
+    count: usize,
+    xy: &[f64; 18],
+    target: Point,
+    r: Reference,
+) -> ElementBest
+    requires { ⌜ (first ≡ false → ofElement best ≡ placed (pointAt (element count (now xy))) target (best .reference)) ⌝ }
+    ensures { λ b. ⌜ b ≡ elementPlace (chosen first (ofElement best) (placed (pointAt (element count (now (xy .entry)))) target r)) ⌝ }
 {
-    let mut best = element_place(count, xy, target, Reference { xi: 0.0, eta: 0.0 });
-    let mut i: usize = 0;
-    while i < 9 {
-        let r = element_walk(count, xy, target, limit, element_seed(i));
-        let new = element_place(count, xy, target, r);
-        if new.square < best.square {
-            best = new;
+    if !first {
+        if same_reference(r, best.reference) {
+            return best;
         }
+    }
+    let new = element_place(count, xy, target, r);
+    if is_taken(first, new.square, best.square) {
+        new
+    } else {
+        best
+    }
+}
+
+// The search of an element whose root is left to the caller, for whom the squared distance may be enough. The loop tries the first best, at the centre, and then the end of each seed's steps.
+pub fn element_best(
+    count: usize,
+    xy: &[f64; 18],
+    target_x: f64,
+    target_y: f64,
+    limit: usize,
+) -> ElementBest
+    ensures { λ b. ⌜ b ≡ elementPlace (elementBest (element count (now (xy .entry))) (record { x = «target_x»; y = «target_y» }) limit) ⌝ }
+{
+    let target = Point {
+        x: target_x,
+        y: target_y,
+    };
+    let mut at = Reference { xi: 0.0, eta: 0.0 };
+    let mut memory = ElementMemory {
+        known: false,
+        from: at,
+        to: at,
+    };
+    let mut best = ElementBest {
+        reference: at,
+        point: target,
+        square: 0.0,
+    };
+    let mut i: usize = 0;
+    loop {
+        best = better_element(i == 0, best, count, xy, target, at);
+        if i == 9 {
+            return best;
+        }
+        let end = element_walk(count, xy, target, limit, element_seed(i), memory);
+        at = end.at;
+        memory = end.memory;
         i += 1;
     }
-    best
 }
 
 // Where the target is nearest on element `element_index`, by at most `max_iterations` steps a seed.
@@ -182,7 +341,7 @@ pub fn closest_reference_point(
 ) -> ElementProjection
     ensures { λ r. ⌜ r ≡ closestReferencePoint e «element_index» target «max_iterations» ⌝ }
 {
-    let best = element_best(e.count, &e.xy, target, max_iterations);
+    let best = element_best(e.count, &e.xy, target.x, target.y, max_iterations);
     let ElementBest {
         reference,
         point,
@@ -196,12 +355,60 @@ pub fn closest_reference_point(
     }
 }
 
+// ---- face
+
 // The coordinate after a step from s, along the tangent d; (u, v) is the residual and square the squared tangent.
 fn next_s(d: Point, square: f64, u: f64, v: f64, s: f64) -> f64
     requires { ⌜ square ≡ tangentSquare d ⌝ }
     ensures { λ n. ⌜ n ≡ nextS d u v s ⌝ }
 {
     clamp(s - (d.x * u + d.y * v) / square)
+}
+
+// What one step from a coordinate comes to: the coordinate after it, and whether the seed's steps end there.
+struct FaceStep {
+    next: f64,
+    ended: bool,
+}
+
+fn face_step(count: usize, xy: &[f64; 18], local_face: u8, target: Point, s: f64) -> FaceStep
+    ensures { λ n. ⌜ Stepped (faceStep (element count (now (xy .entry))) «local_face» target) s (n .next) (n .ended) ⌝ }
+{
+    let f = elements::face_reference(local_face, s);
+    let g = frame_of(
+        count,
+        xy,
+        Reference {
+            xi: f.xi,
+            eta: f.eta,
+        },
+    );
+    let d = gradients::face_tangent(g.jacobian, f);
+    let square = d.x * d.x + d.y * d.y;
+    if square <= EPSILON {
+        return FaceStep {
+            next: s,
+            ended: true,
+        };
+    }
+    let next = next_s(d, square, g.point.x - target.x, g.point.y - target.y, s);
+    FaceStep {
+        next,
+        ended: within(next - s, EPSILON),
+    }
+}
+
+// A step that ended the steps of a seed. Nothing is remembered where `known` is false.
+struct FaceMemory {
+    known: bool,
+    from: f64,
+    to: f64,
+}
+
+// Where the steps of a seed end, and what is remembered.
+struct FaceEnd {
+    at: f64,
+    memory: FaceMemory,
 }
 
 // At most `left` steps from s.
@@ -212,40 +419,39 @@ fn face_walk(
     target: Point,
     mut left: usize,
     mut s: f64,
-) -> f64
-    ensures { λ r. ⌜ r ≡ walked (faceStep (element count (now (xy .entry))) «local_face» target) left s ⌝ }
+    mut memory: FaceMemory,
+) -> FaceEnd
+    requires { ⌜ Remembered (faceStep (element count (now xy)) «local_face» target) (memory .known) (memory .from) (memory .to) ⌝ }
+    ensures { λ n. ⌜ n .at ≡ walked (faceStep (element count (now (xy .entry))) «local_face» target) left s ⌝ }
+    ensures { λ n. ⌜ Remembered (faceStep (element count (now (xy .entry))) «local_face» target) (n .memory .known) (n .memory .from) (n .memory .to) ⌝ }
 {
     while 0 < left {
-        let f = elements::face_reference(local_face, s);
-        let g = mapping::frame_at(
-            count,
-            xy,
-            Reference {
-                xi: f.xi,
-                eta: f.eta,
-            },
-        );
-        let d = gradients::face_tangent(g.jacobian, f);
-        let square = d.x * d.x + d.y * d.y;
-        if square <= EPSILON {
+        if is_known(memory.known, s, memory.from) {
+            s = memory.to;
             break;
         }
-        let n = next_s(d, square, g.point.x - target.x, g.point.y - target.y, s);
-        let step = n - s;
-        s = n;
-        if within(step, EPSILON) {
+        let step = face_step(count, xy, local_face, target, s);
+        let next = step.next;
+        if step.ended {
+            memory = FaceMemory {
+                known: true,
+                from: s,
+                to: next,
+            };
+            s = next;
             break;
         }
+        s = next;
         left -= 1;
     }
-    s
+    FaceEnd { at: s, memory }
 }
 
 fn face_place(count: usize, xy: &[f64; 18], local_face: u8, target: Point, s: f64) -> FaceBest
     ensures { λ b. ⌜ b ≡ facePlace (placed (facePoint (element count (now (xy .entry))) «local_face») target s) ⌝ }
 {
     let f = elements::face_reference(local_face, s);
-    let point = mapping::point_at(
+    let point = point_of(
         count,
         xy,
         Reference {
@@ -258,29 +464,79 @@ fn face_place(count: usize, xy: &[f64; 18], local_face: u8, target: Point, s: f6
 }
 
 // The seeds of the face search.
-const SEED_S: [f64; 3] = [-1.0, 0.0, 1.0];
-
 fn face_seed(i: usize) -> f64
-    requires { ⌜ i < 3 ⌝ }
     ensures { λ r. ⌜ r ≡ getD faceSeeds i plus0 ⌝ }
 {
-    SEED_S[i]
+    match i {
+        0 => -1.0,
+        2 => 1.0,
+        _ => 0.0,
+    }
 }
 
-fn face_best(count: usize, xy: &[f64; 18], local_face: u8, target: Point, limit: usize) -> FaceBest
-    ensures { λ b. ⌜ b ≡ facePlace (faceBest (element count (now (xy .entry))) «local_face» target limit) ⌝ }
+// The best so far, or the place at s where that is the first or has a smaller square. A place at the best's own s has the best's square, and is not worked out.
+fn better_face(
+    first: bool,
+    best: FaceBest,
+    count: usize,
+    xy: &[f64; 18],
+    local_face: u8,
+    target: Point,
+    s: f64,
+) -> FaceBest
+    requires { ⌜ (first ≡ false → ofFace best ≡ placed (facePoint (element count (now xy)) «local_face») target (best .s)) ⌝ }
+    ensures { λ b. ⌜ b ≡ facePlace (chosen first (ofFace best) (placed (facePoint (element count (now (xy .entry))) «local_face») target s)) ⌝ }
 {
-    let mut best = face_place(count, xy, local_face, target, 0.0);
-    let mut i: usize = 0;
-    while i < 3 {
-        let s = face_walk(count, xy, local_face, target, limit, face_seed(i));
-        let new = face_place(count, xy, local_face, target, s);
-        if new.square < best.square {
-            best = new;
+    if !first {
+        if same(s, best.s) {
+            return best;
         }
+    }
+    let new = face_place(count, xy, local_face, target, s);
+    if is_taken(first, new.square, best.square) {
+        new
+    } else {
+        best
+    }
+}
+
+// The search of a face whose root is left to the caller. The loop tries the first best, at s = 0, and then the end of each seed's steps.
+pub fn face_best(
+    count: usize,
+    xy: &[f64; 18],
+    local_face: u8,
+    target_x: f64,
+    target_y: f64,
+    limit: usize,
+) -> FaceBest
+    ensures { λ b. ⌜ b ≡ facePlace (faceBest (element count (now (xy .entry))) «local_face» (record { x = «target_x»; y = «target_y» }) limit) ⌝ }
+{
+    let target = Point {
+        x: target_x,
+        y: target_y,
+    };
+    let mut at = 0.0;
+    let mut memory = FaceMemory {
+        known: false,
+        from: at,
+        to: at,
+    };
+    let mut best = FaceBest {
+        s: at,
+        point: target,
+        square: 0.0,
+    };
+    let mut i: usize = 0;
+    loop {
+        best = better_face(i == 0, best, count, xy, local_face, target, at);
+        if i == 3 {
+            return best;
+        }
+        let end = face_walk(count, xy, local_face, target, limit, face_seed(i), memory);
+        at = end.at;
+        memory = end.memory;
         i += 1;
     }
-    best
 }
 
 // Where the target is nearest on face `local_face` of element `element_index`, by at most `max_iterations` steps a seed.
@@ -293,7 +549,14 @@ pub fn closest_face_point(
 ) -> FaceProjection
     ensures { λ r. ⌜ r ≡ closestFacePoint e «element_index» «local_face» target «max_iterations» ⌝ }
 {
-    let best = face_best(e.count, &e.xy, local_face, target, max_iterations);
+    let best = face_best(
+        e.count,
+        &e.xy,
+        local_face,
+        target.x,
+        target.y,
+        max_iterations,
+    );
     let FaceBest { s, point, square } = best;
     FaceProjection {
         element_index,

@@ -1,11 +1,7 @@
--- `mapping::point_at` meets its contract: `shape` and `map_point` ensure it together. Assumes nothing.
-use Rattle.definition.specs.Mapping.{pointAt}
+-- `mapping::point_at` meets its contract: every family but 9 counts as 4. Assumes nothing.
+use Rattle.mapping.proofs.Families.{point-nine, point-four}
 use Rattle.mapping.proofs.point_at.Statement.{statement}
 use Rattle.mapping.proofs.point_at.Tie as tie
 
-returns : tie.Need-returns
-unfolding pointAt
-returns c = rw (← c .before .before .shape .ensures) (c .map-point .ensures)
-
 pub point-at-spec : {M : Type 1} → statement M
-point-at-spec = tie.close (tie.spec (λ c κs. tt) (λ c κs. tt) returns)
+point-at-spec = tie.close (tie.spec (λ c κs. tt) (λ c κs. tt) (λ c. point-nine _ _ _ (c .before .if1 .taken) (c .point9 .ensures)) (λ c. point-four _ _ _ (c .before .if1 .left) (c .point4 .ensures)))

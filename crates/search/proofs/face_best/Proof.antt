@@ -1,46 +1,51 @@
--- `search::face_best` meets its contract: after i turns the best is that of the first i seeds. Assumes nothing.
-use mathlib.Core.Path.{_≡_, refl, _∙_}
-use mathlib.Core.Logic.{⊎-elim}
+-- `search::face_best` meets its contract: after i turns the first best and the ends of i seeds have been met, and the last of them is in hand. Assumes nothing.
+use mathlib.Core.Path.{ap, _∙_}
+use mathlib.Core.Bool.{false≢true}
 use Prim.Native.Nat.{_≤_, _-_}
 use native.Mathlib.Omega.{arith}
 use lib.Ieee.{ofBits}
 use Rattle.definition.specs.Binary64.{plus0}
-use Rattle.definition.specs.Search.{bestOf, facePoint, faceStep, faceSeeds, faceBest}
+use Rattle.definition.specs.Search.{facePoint, faceStep, faceSeeds, faceBest}
 use Rattle.mapping.specs.Element.{element}
-use Rattle.search.specs.Search.{facePlace}
-use Rattle.search.proofs.Tried.{after}
+use Rattle.places.specs.Places.{facePlace, ofFace}
+use Rattle.search.specs.Search.{Remembered}
+use Rattle.search.proofs.Tried.{InHand, beginning, tried, own, next}
 use Rattle.search.proofs.face_best.Statement.{statement}
 use Rattle.search.proofs.face_best.Tie as tie
 
 abbrev Inv-loop : tie.InvT-loop
-Inv-loop count xy local-face target limit best₀ i₀ best i =
-    (i ≤ 3) × (best ≡ facePlace (bestOf (facePoint (element count xy) local-face) (faceStep (element count xy) local-face target) target limit plus0 faceSeeds i))
+Inv-loop count xy local-face target-x target-y limit target at₀ memory₀ best₀ i₀ at memory best i =
+    (let e = element count xy in
+    (i ≤ 3) × InHand (facePoint e local-face) (faceStep e local-face target) target limit plus0 faceSeeds i (ofFace best) at × Remembered (faceStep e local-face target) (memory .known) (memory .from) (memory .to))
 
 abbrev μ-loop : tie.MeasureT-loop
-μ-loop count xy local-face target limit best₀ i₀ best i = 3 - i
+μ-loop count xy local-face target-x target-y limit target at₀ memory₀ best₀ i₀ at memory best i = 3 - i
 
 loop-holds : tie.Need-loop-holds Inv-loop μ-loop
-unfolding bestOf ofBits
-loop-holds c = (omega arith, c .face-place .ensures)
+unfolding ofBits
+loop-holds c = (omega arith, beginning _, λ t. absurd (false≢true t))
 
-loop-again : tie.Need-loop-again Inv-loop μ-loop
-loop-again c =
-    let new = c .before .before .before in
-    let seed = new .before .before in
-    let l = seed .before .before .loop in
-    let a = seed .before .before .before .before .args in
-    let e = element (a .count) (a .xy .now) in
-    let tried = after facePlace (λ b. b .square) (λ b. refl) (facePoint e (a .local-face)) (faceStep e (a .local-face) (a .target)) (a .target) (a .limit) plus0 faceSeeds (l .i) (l .inv .1) (seed .face-seed .ensures) (new .before .face-walk .ensures) (new .face-place2 .ensures) in
-    ⊎-elim (λ w. (omega arith, w .1 ∙ tried .0 (w .0 .taken))) (λ w. (omega arith, w .1 ∙ tried .1 (w .0 .left))) (c .if1 .came)
+better-face-requires : tie.Need-better-face-requires Inv-loop μ-loop
+better-face-requires c κs h = own _ _ _ _ _ _ (c .loop .inv .1) h
 
 returns : tie.Need-returns Inv-loop μ-loop
 unfolding faceBest
 returns c =
-    let l = c .before .loop in
-    let e : l .i ≡ 3 = omega arith in
-    rw e at (l .inv .1)
+    let l = c .before .before .loop in
+    rw (c .if1 .taken) at (c .before .better-face .ensures ∙ ap facePlace (tried _ _ _ _ _ _ (l .inv .1)))
+
+loop-again : tie.Need-loop-again Inv-loop μ-loop
+loop-again c =
+    let walk = c .before in
+    let seed = walk .before in
+    let best = seed .before .before in
+    let l = best .before .loop in (
+      omega arith,
+      next _ _ _ _ _ _ (l .i) (ap ofFace (best .better-face .ensures) ∙ tried _ _ _ _ _ _ (l .inv .1)) (seed .face-seed .ensures) (walk .face-walk .ensures .0),
+      walk .face-walk .ensures .1,
+    )
 
 pub face-best-spec : {M : Type 1} → statement M
 face-best-spec =
     tie.close
-    (tie.spec Inv-loop μ-loop (λ c κs. tt) loop-holds (λ c κs. omega arith) (λ c κs. tt) (λ c κs. tt) (λ c. omega arith) (λ c. omega arith) loop-again returns)
+    (tie.spec Inv-loop μ-loop loop-holds better-face-requires returns (λ c κs. tt) (λ c κs. c .before .before .before .loop .inv .2) (λ c. omega arith) (λ c. omega arith) loop-again)

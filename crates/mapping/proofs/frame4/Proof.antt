@@ -1,0 +1,17 @@
+-- `mapping::frame4` meets its contract: its callees ensure it together. Assumes nothing.
+use native.Mathlib.Omega.{arith}
+use Rattle.definition.specs.Elements.{nodesOf}
+use Rattle.definition.specs.Mapping.{pointAt, jacobianAt}
+use Rattle.mapping.proofs.frame4.Statement.{statement}
+use Rattle.mapping.proofs.frame4.Tie as tie
+
+returns : tie.Need-returns
+unfolding pointAt jacobianAt nodesOf
+returns c =
+    let gradients = c .before .before .before .before in (
+      rw (← gradients .before .shape .ensures) (c .before .before .point-sum .ensures),
+      rw (← gradients .grad-ref .ensures) (c .jacobian-sum .ensures),
+    )
+
+pub frame4-spec : {M : Type 1} → statement M
+frame4-spec = tie.close (tie.spec (λ c κs. tt) (λ c κs. tt) (λ c κs. omega arith) (λ c κs. omega arith) returns)
