@@ -39,10 +39,10 @@ fn put_interpolation(
 }
 
 // The interpolation operator: one row a point, one column a node, and the shape numbers as values.
-pub fn quad_mesh_interpolation_operator(
+pub fn quad_mesh_interpolation_operator<'a>(
     family: usize,
-    nodes_rz: &[f64],
-    elements: &[u32],
+    nodes_rz: &'a [f64],
+    elements: &'a [u32],
     element_indices: &[usize],
     reference_points: &[f64],
     rows: &mut [usize],

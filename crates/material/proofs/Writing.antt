@@ -1,5 +1,5 @@
 -- A lent list written from a place on: what one value more is, and what comes of writing on where the last call ended. Assumes nothing.
-use mathlib.Core.Path.{_≡_}
+use mathlib.Core.Path.{_≡_, refl}
 use mathlib.Core.List.{List, [], _∷_, _++_, append-assoc, append-nil}
 use Prim.Native.Nat.{ℕ, _+_, _*_, _≤_, _<_}
 use native.Mathlib.Nat.{add-assoc}
@@ -65,3 +65,8 @@ pub part-next : {A : Type 0} (g : ℕ → List A) (k i : ℕ) {before after : Li
 part-next g k i old e p q =
     let size : length (each g i) ≡ k * i = each-length g (λ j l. e j) in
     rw (q, p, ← size, each-more) (over-from-over (each g i) (g i) old)
+
+pub four-parts : {A : Type 0} (g : ℕ → List A) (k : ℕ) {a b c d : List A} (old : List A) → ((j : ℕ) → length (g j) ≡ k) →
+    a ≡ overFrom (k * 0) (g 0) old → b ≡ overFrom (k * 1) (g 1) a → c ≡ overFrom (k * 2) (g 2) b → d ≡ overFrom (k * 3) (g 3) c → d ≡ over (each g 4) old
+unfolding each over
+four-parts g k old e p q r s = part-next g k 3 old e (part-next g k 2 old e (part-next g k 1 old e (part-next g k 0 old e refl p) q) r) s

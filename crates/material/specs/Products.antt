@@ -1,10 +1,9 @@
--- What the calls hand back as arrays: a material as sixteen numbers, and a material times four rows of strains.
+-- What the calls hand back or write: a material as sixteen numbers, and a material times four rows of strains.
 use mathlib.Core.List.{List, _++_}
 use Prim.Native.Nat.{ℕ, _+_, _*_}
-use lib.ListN.{getD, take, replicate}
+use lib.ListN.{getD, take}
 use lib.Ieee.{Float, nan}
 use Rattle.definition.specs.Lists.{each, over}
-use Rattle.definition.specs.Binary64.{plus0}
 use Rattle.definition.specs.Query.{values}
 use Rattle.definition.specs.Rows.{fourTerms}
 
@@ -23,7 +22,3 @@ entryOf a b n i t = fourTerms a i (getD b t nan) (getD b (n + t) nan) (getD b (2
 -- their product, row after row
 unfoldable pub timesOf : List Float → List Float → ℕ → List Float
 timesOf a b n = each (λ i. values (entryOf a b n i) n) 4
-
--- "material times strain matrix, four terms from +0", over zeros: the strain matrix has two columns a node
-unfoldable pub stressOf : List Float → List Float → ℕ → List Float
-stressOf material strain nodes = over (timesOf material strain (2 * nodes)) (replicate 72 plus0)

@@ -10,7 +10,7 @@ ghost use Rattle.definition.specs.Binary64.{plus0, one};
 ghost use Rattle.definition.specs.Elements.{nodesOf};
 ghost use Rattle.definition.specs.Query.{values};
 ghost use Rattle.definition.specs.Rows.{materialOf, fourTerms, productOf, strainToLocal, stressToGlobal, rotated, orientedMaterial};
-ghost use Rattle.material.specs.Products.{sixteen, overFrom, entryOf, timesOf, stressOf};
+ghost use Rattle.material.specs.Products.{sixteen, overFrom, entryOf, timesOf};
 
 // ---- a material of the table
 
@@ -75,34 +75,31 @@ fn put_row(a: &[f64; 16], b: &[f64], columns: usize, i: usize, out: &mut [f64])
     }
 }
 
-// The matrix a, times the matrix b of four rows, row after row.
-fn put_product(a: &[f64; 16], b: &[f64], columns: usize, out: &mut [f64])
-    requires { ⌜ (4 * columns ≤ length (now b)) × (4 * columns ≤ length (now out)) ⌝ }
-    ensures { λ r. ⌜ now (out .exit) ≡ over (timesOf (now (a .entry)) (now (b .entry)) columns) (now (out .entry)) ⌝ }
-{
-    let mut i: usize = 0;
-    while i < 4 {
-        put_row(a, b, columns, i, out);
-        i += 1;
-    }
-}
-
-// Material times strain, over zeros. The strain has a row a component, of two numbers a node; a strain that is 0 by its place is a term like any other.
-pub fn stress_values(material: &[f64; 16], strain: &[f64; 72], family: usize) -> [f64; 72]
-    ensures { λ r. ⌜ r ≡ stressOf (now (material .entry)) (now (strain .entry)) (nodesOf family) ⌝ }
+// Material times strain, over the lent array. The strain has a row a component, of two numbers a node; a strain that is 0 by its place is a term like any other.
+pub fn put_stress_values(
+    material: &[f64; 16],
+    strain: &[f64; 72],
+    family: usize,
+    out: &mut [f64; 72],
+)
+    ensures { λ r. ⌜ now (out .exit) ≡ over (timesOf (now (material .entry)) (now (strain .entry)) (2 * nodesOf family)) (now (out .entry)) ⌝ }
 {
     let columns = 2 * elements::nodes_per_element(family);
-    let mut out = [0.0; 72];
-    put_product(material, strain, columns, &mut out);
-    out
+    put_row(material, strain, columns, 0, out);
+    put_row(material, strain, columns, 1, out);
+    put_row(material, strain, columns, 2, out);
+    put_row(material, strain, columns, 3, out);
 }
 
-// The product of two matrices of sixteen numbers.
+// The product of two matrices of sixteen numbers. The number of columns is one that the compiler knows: the rows become straight code.
 fn product(a: &[f64; 16], b: &[f64; 16]) -> [f64; 16]
     ensures { λ r. ⌜ r ≡ productOf (now (a .entry)) (now (b .entry)) ⌝ }
 {
     let mut out = [0.0; 16];
-    put_product(a, b, 4, &mut out);
+    put_row(a, b, 4, 0, &mut out);
+    put_row(a, b, 4, 1, &mut out);
+    put_row(a, b, 4, 2, &mut out);
+    put_row(a, b, 4, 3, &mut out);
     out
 }
 
@@ -173,14 +170,11 @@ fn is_unturned(c: f64, s: f64) -> bool
 pub fn rotate_material_in_plane(material: &[f64], c: f64, s: f64) -> [f64; 16]
     ensures { λ r. ⌜ r ≡ sixteen (rotated (now (material .entry)) c s) ⌝ }
 {
-    let local = copy_material(material);
     if is_unturned(c, s) {
-        return local;
+        return copy_material(material);
     }
-    let to_local = strain_to_local(c, s);
-    let to_global = stress_to_global(c, s);
-    let half = product(&local, &to_local);
-    product(&to_global, &half)
+    let half = product(&copy_material(material), &strain_to_local(c, s));
+    product(&stress_to_global(c, s), &half)
 }
 
 // The material of an element: that of its number, turned by the element's pair where pairs are given. Where they are not, their list is not read.

@@ -5,11 +5,10 @@ ghost use mathlib.Core.List.{[], _∷_};
 ghost use lib.Dec.{ltb};
 ghost use lib.ListN.{length};
 ghost use Rattle.definition.specs.Lists.{each};
-ghost use Rattle.definition.specs.Mapping.{detJ, pointAt, jacobianAt};
 ghost use Rattle.definition.specs.Mesh.{Mesh, gathered};
 ghost use Rattle.definition.specs.Questions.{ask, asked, onward, verdictOutcome, elementKnown, notInverted, offAxis};
+ghost use Rattle.mapping.specs.Element.{element};
 ghost use Rattle.point_questions.specs.Points.{interpolationAsked, strainAsked, stressAsked};
-use definition::GatheredElement;
 use definition::Reference;
 use definition::Structural2dFormulation;
 use definition::Verdict;
@@ -27,36 +26,23 @@ fn element_question(p: usize, family: usize, elements: &[u32], element_index: us
 
 // ---- one point
 
-// The Jacobian determinant of an element at a reference point.
-fn determinant_at(e: GatheredElement, reference: Reference) -> f64
-    ensures { λ r. ⌜ r ≡ detJ (jacobianAt e reference) ⌝ }
-{
-    let frame = mapping::frame_at(e.count, &e.xy, reference);
-    gradients::det_j(frame.jacobian)
-}
-
-// The radius of an element at a reference point.
-fn radius_at(e: GatheredElement, reference: Reference) -> f64
-    ensures { λ r. ⌜ r ≡ pointAt e reference .x ⌝ }
-{
-    let point = mapping::point_at(e.count, &e.xy, reference);
-    point.x
-}
-
 // The verdict so far, and after a pass questions 16 and 17 of point p: is the element not inverted there, and, axisymmetric, does the point lie off the axis? NaN passes both.
 fn place_questions(
     v: Verdict,
     p: usize,
     formulation: Structural2dFormulation,
-    e: GatheredElement,
+    family: usize,
+    coords: &[f64; 18],
     reference: Reference,
 ) -> Verdict
-    ensures { λ r. ⌜ verdictOutcome r ≡ onward (verdictOutcome v) (asked (notInverted e p reference ∷ offAxis formulation e p reference) tt) ⌝ }
+    ensures { λ r. ⌜ (let e = element family (now (coords .entry)) in
+        verdictOutcome r ≡ onward (verdictOutcome v) (asked (notInverted e p reference ∷ offAxis formulation e p reference) tt)) ⌝ }
 {
-    let v = questions::then(v, !(determinant_at(e, reference) <= 0.0), 16, p);
+    let frame = mapping::frame_at(family, coords, reference);
+    let v = questions::then(v, !(gradients::det_j(frame.jacobian) <= 0.0), 16, p);
     match formulation {
         Structural2dFormulation::Axisymmetric => {
-            questions::then(v, !(radius_at(e, reference) <= EPSILON), 17, p)
+            questions::then(v, !(frame.point.x <= EPSILON), 17, p)
         }
         Structural2dFormulation::PlaneStrain { .. } => v,
     }
@@ -76,8 +62,10 @@ fn strain_questions_at(
         verdictOutcome r ≡ asked (elementKnown m p «element_index» ∷ notInverted (gathered m «element_index») p reference ∷ offAxis formulation (gathered m «element_index») p reference) tt) ⌝ }
 {
     let v = element_question(p, family, elements, element_index);
-    let e = mesh::element_coords(family, nodes_rz, elements, element_index);
-    place_questions(v, p, formulation, e, reference)
+    let mut xy = [0.0; 18];
+    mesh::put_element_coords(family, nodes_rz, elements, element_index, &mut xy);
+    let count = elements::nodes_per_element(family);
+    place_questions(v, p, formulation, count, &xy, reference)
 }
 
 // The questions of point p in stress: 14, 15, 16 and 17. `materials` counts the materials.
@@ -97,8 +85,10 @@ fn stress_questions_at(
 {
     let v = element_question(p, family, elements, element_index);
     let v = questions::then(v, material < materials, 15, p);
-    let e = mesh::element_coords(family, nodes_rz, elements, element_index);
-    place_questions(v, p, formulation, e, reference)
+    let mut xy = [0.0; 18];
+    mesh::put_element_coords(family, nodes_rz, elements, element_index, &mut xy);
+    let count = elements::nodes_per_element(family);
+    place_questions(v, p, formulation, count, &xy, reference)
 }
 
 // ---- one point after the other

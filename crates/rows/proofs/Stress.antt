@@ -4,15 +4,14 @@ use mathlib.Core.List.{List, [], _∷_, append-assoc}
 use Prim.Native.Nat.{ℕ, zero, suc, _+_, _*_, _<_}
 use native.Mathlib.Nat.{add-zero}
 use native.Mathlib.Omega.{arith}
-use lib.ListN.{getD, replicate}
+use lib.ListN.{getD}
 use lib.Ieee.{Float, nan}
 use Rattle.definition.specs.Lists.{each, over}
-use Rattle.definition.specs.Binary64.{plus0}
 use Rattle.definition.specs.Query.{values}
 use Rattle.definition.specs.Rows.{Basis, strainEntry, stressEntry}
 use Rattle.definition.specs.declared.Structural2dFormulation.{Structural2dFormulation}
 use Rattle.definition.proofs.Lists.{each-same, each-more}
-use Rattle.material.specs.Products.{sixteen, entryOf, timesOf, stressOf}
+use Rattle.material.specs.Products.{sixteen, entryOf, timesOf}
 use Rattle.material.proofs.Products.{times-of-sixteen}
 use Rattle.rows.specs.Values.{valuesOf}
 use Rattle.rows.proofs.Values.{written-at}
@@ -38,12 +37,10 @@ entry-is material f b F i {j} {d} old h c =
       strain 3 (3 * (2 * F) + (2 * j + d)) (omega arith) (omega arith),
     )
 
-pub stress-of-strain : (material : List Float) (f : Structural2dFormulation) (b : Basis) (F : ℕ) →
-    stressOf (sixteen material) (over (valuesOf (strainEntry f b) F) (replicate 72 plus0)) F ≡ over (valuesOf (stressEntry material f b) F) (replicate 72 plus0)
-unfolding stressOf valuesOf timesOf
-stress-of-strain material f b F =
-    let old = replicate 72 plus0 in
+pub stress-of-strain : (material : List Float) (f : Structural2dFormulation) (b : Basis) (F : ℕ) (old : List Float) →
+    timesOf (sixteen material) (over (valuesOf (strainEntry f b) F) old) (2 * F) ≡ valuesOf (stressEntry material f b) F
+unfolding valuesOf timesOf
+stress-of-strain material f b F old =
     let strain = over (valuesOf (strainEntry f b) F) old in
-    ap (λ l. over l old)
-    (times-of-sixteen material strain (2 * F)
-    ∙ each-same (λ i a. values-by-node (entryOf material strain (2 * F) i) F ∙ each-same (λ j h. each-same (λ d c. ap (λ v. v ∷ []) (entry-is material f b F i old h c)))))
+    times-of-sixteen material strain (2 * F)
+    ∙ each-same (λ i a. values-by-node (entryOf material strain (2 * F) i) F ∙ each-same (λ j h. each-same (λ d c. ap (λ v. v ∷ []) (entry-is material f b F i old h c))))

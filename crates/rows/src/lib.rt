@@ -92,48 +92,52 @@ fn put_pairs(first: &[f64; 9], second: &[f64; 9], count: usize, at: usize, out: 
     }
 }
 
-// The four rows, over zeros, from the gradients by x and by y and the tt values.
-fn strain_rows(by_x: &[f64; 9], by_y: &[f64; 9], hoop: &[f64; 9], count: usize) -> [f64; 72]
+// The four rows, over the lent array, from the gradients by x and by y and the tt values.
+fn strain_rows(by_x: &[f64; 9], by_y: &[f64; 9], hoop: &[f64; 9], count: usize, out: &mut [f64; 72])
     requires { ⌜ count ≤ 9 ⌝ }
-    ensures { λ r. ⌜ r ≡ listed (entryBy (now («by_x» .entry)) (now («by_y» .entry)) (now (hoop .entry))) count ⌝ }
+    ensures { λ r. ⌜ now (out .exit) ≡ listed (entryBy (now («by_x» .entry)) (now («by_y» .entry)) (now (hoop .entry))) count (now (out .entry)) ⌝ }
 {
     let none = [0.0; 9];
-    let mut out = [0.0; 72];
-    put_pairs(by_x, &none, count, 0, &mut out);
-    put_pairs(&none, by_y, count, 2 * count, &mut out);
-    put_pairs(hoop, &none, count, 4 * count, &mut out);
-    put_pairs(by_y, by_x, count, 6 * count, &mut out);
-    out
+    put_pairs(by_x, &none, count, 0, out);
+    put_pairs(&none, by_y, count, 2 * count, out);
+    put_pairs(hoop, &none, count, 4 * count, out);
+    put_pairs(by_y, by_x, count, 6 * count, out);
 }
 
-// The strain values of a point: the value of component i, local node j and displacement component d stands at (i * F + j) * 2 + d. The places past the family's nodes hold 0.
-pub fn strain_values(
+// The strain values of a point, over the lent array: the value of component i, local node j and displacement component d stands at (i * F + j) * 2 + d. The places past the family's nodes keep what they held.
+pub fn put_strain_values(
     formulation: Structural2dFormulation,
     family: usize,
     coords: &[f64; 18],
     reference: Reference,
-) -> [f64; 72]
-    ensures { λ r. ⌜ r ≡ listed (strainEntry formulation (basisAt (element family (now (coords .entry))) reference)) (nodesOf family) ⌝ }
+    out: &mut [f64; 72],
+)
+    ensures { λ r. ⌜ now (out .exit) ≡ listed (strainEntry formulation (basisAt (element family (now (coords .entry))) reference)) (nodesOf family) (now (out .entry)) ⌝ }
 {
     let count = elements::nodes_per_element(family);
     let gradient = gradient_at(family, coords, reference);
     let by_x = column(&gradient, 0, count);
     let by_y = column(&gradient, 1, count);
     let hoop = hoop_at(formulation, family, coords, reference);
-    strain_rows(&by_x, &by_y, &hoop, count)
+    strain_rows(&by_x, &by_y, &hoop, count, out);
 }
 
-// The strain values at a reference point of an element of the mesh: `nodes_rz` has two coordinates a node, and `elements` F node numbers an element.
-pub fn strain_at(
+// The strain values at the reference point (xi, eta) of an element of the mesh, over the lent array: `nodes_rz` has two coordinates a node, and `elements` F node numbers an element.
+// The reference point goes as two numbers, which stay in registers: a pair that is stored and at once read back as one would wait for the store.
+pub fn put_strain_at(
     family: usize,
     nodes_rz: &[f64],
     elements: &[u32],
     element_index: usize,
-    reference: Reference,
+    xi: f64,
+    eta: f64,
     formulation: Structural2dFormulation,
-) -> [f64; 72]
-    ensures { λ r. ⌜ r ≡ listed (strainEntry formulation (basisAt (gathered (record { family = family; nodes = now («nodes_rz» .entry); elements = now (elements .entry) }) «element_index») reference)) (nodesOf family) ⌝ }
+    out: &mut [f64; 72],
+)
+    ensures { λ r. ⌜ now (out .exit) ≡ listed (strainEntry formulation (basisAt (gathered (record { family = family; nodes = now («nodes_rz» .entry); elements = now (elements .entry) }) «element_index») (record { xi = xi; eta = eta }))) (nodesOf family) (now (out .entry)) ⌝ }
 {
-    let e = mesh::element_coords(family, nodes_rz, elements, element_index);
-    strain_values(formulation, e.count, &e.xy, reference)
+    let mut xy = [0.0; 18];
+    mesh::put_element_coords(family, nodes_rz, elements, element_index, &mut xy);
+    let count = elements::nodes_per_element(family);
+    put_strain_values(formulation, count, &xy, Reference { xi, eta }, out);
 }

@@ -5,7 +5,7 @@ use mathlib.Core.List.{List, [], _∷_}
 use Prim.Native.Nat.{ℕ, zero, suc, _+_, _*_, _≤_}
 use native.Mathlib.Nat.{add-assoc}
 use native.Mathlib.Omega.{arith}
-use lib.ListN.{length, getD, replicate, length-append}
+use lib.ListN.{length, getD, length-append}
 use lib.Ieee.{Float, nan, eq}
 use Rattle.definition.specs.Binary64.{plus0}
 use Rattle.definition.specs.Elements.{nodesOf, shapeOf}
@@ -23,20 +23,20 @@ use Rattle.triplets.proofs.Strips.{written-each}
 use Rattle.sparse.specs.Triplets.{tripletsTill, shapeValue}
 
 -- triplets whose values are read from an array
-entries-are : (F p : ℕ) (node : ℕ → ℕ) (value : ℕ → ℕ → ℕ → Float) → pointTriplets 4 2 F node (λ i j d. getD (listed value F) (2 * F * i + 2 * j + d) nan) p ≡ pointTriplets 4 2 F node value p
+entries-are : (F p : ℕ) (node : ℕ → ℕ) (value : ℕ → ℕ → ℕ → Float) (old : List Float) → pointTriplets 4 2 F node (λ i j d. getD (listed value F old) (2 * F * i + 2 * j + d) nan) p ≡ pointTriplets 4 2 F node value p
 unfolding pointTriplets
-entries-are F p node value =
-    each-same (λ i a. each-same (λ j b. each-same (λ d c. ap (kept (4 * p + i) (2 * node j + d)) (rw (add-assoc (2 * F * i) (2 * j) d) (written-at value a b c (replicate 72 plus0))))))
+entries-are F p node value old =
+    each-same (λ i a. each-same (λ j b. each-same (λ d c. ap (kept (4 * p + i) (2 * node j + d)) (rw (add-assoc (2 * F * i) (2 * j) d) (written-at value a b c old)))))
 
 module _ (q : InterpolationCall) (s : Strip) (p : ℕ) {t u : Strip} {nodes : List ℕ} (row : nodes ≡ elementNodes (record { family = q .mesh .family; nodes = []; elements = q .mesh .elements }) (elementAt q p)) where
   pub shape-next : {r : Reference} {shape : List Float} → t ≡ written s (tripletsTill q 1 1 (shapeValue q) p) → r ≡ referenceAt q p → shape ≡ shapeOf (q .mesh .family) (r .xi) (r .eta) →
       u ≡ written t (pointTriplets 1 1 (nodesOf (q .mesh .family)) (λ j. getD nodes j 0) (λ i j d. getD shape j nan) p) → u ≡ written s (tripletsTill q 1 1 (shapeValue q) (p + 1))
   shape-next before at-reference shape-is put = written-each s _ p before (rw (row, row-alone (q .mesh) (elementAt q p), shape-is, at-reference) at put)
 
-  pub component-next : (value : ℕ → ℕ → ℕ → ℕ → Float) {entries : List Float} → t ≡ written s (tripletsTill q 4 2 value p) → entries ≡ listed (value p) (nodesOf (q .mesh .family)) →
+  pub component-next : (value : ℕ → ℕ → ℕ → ℕ → Float) {entries : List Float} (old : List Float) → t ≡ written s (tripletsTill q 4 2 value p) → entries ≡ listed (value p) (nodesOf (q .mesh .family)) old →
       u ≡ written t (pointTriplets 4 2 (nodesOf (q .mesh .family)) (λ j. getD nodes j 0) (λ i j d. getD entries (2 * nodesOf (q .mesh .family) * i + 2 * j + d) nan) p) → u ≡ written s (tripletsTill q 4 2 value (p + 1))
-  component-next value before entries-is put =
-      written-each s _ p before (rw (row, row-alone (q .mesh) (elementAt q p), entries-is, entries-are (nodesOf (q .mesh .family)) p (λ j. getD (elementNodes (q .mesh) (elementAt q p)) j 0) (value p)) at put)
+  component-next value old before entries-is put =
+      written-each s _ p before (rw (row, row-alone (q .mesh) (elementAt q p), entries-is, entries-are (nodesOf (q .mesh .family)) p (λ j. getD (elementNodes (q .mesh) (elementAt q p)) j 0) (value p) old) at put)
 
 -- the triplets of interpolation do not depend on the nodes' coordinates
 pub shapes-alone : (q : InterpolationCall) (n : ℕ) →

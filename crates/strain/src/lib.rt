@@ -28,25 +28,28 @@ fn put_strain(
     ensures { λ r. ⌜ (let q = strainCall (interpolationCall family (now («nodes_rz» .entry)) (now (elements .entry)) (now («element_indices» .entry)) (now («reference_points» .entry))) formulation in
         strip (now (rows .exit)) (now (columns .exit)) (now (values .exit)) r ≡ written (strip (now (rows .entry)) (now (columns .entry)) (now (values .entry)) 0) (tripletsTill (q .base) 4 2 (strainValue q) (length (now («element_indices» .entry))))) ⌝ }
 {
+    let mut strain = [0.0; 72];
     let mut at: usize = 0;
     let mut p: usize = 0;
     while p < element_indices.len() {
         let element_index = element_indices[p];
         let nodes = mesh::element_nodes(family, elements, element_index);
         let reference = lists::reference_at(reference_points, p);
-        let strain = rows::strain_at(
+        rows::put_strain_at(
             family,
             nodes_rz,
             elements,
             element_index,
-            reference,
+            reference.xi,
+            reference.eta,
             formulation,
+            &mut strain,
         );
         at = triplets::put_component_rows(
             p as u32,
             family,
             nodes,
-            strain,
+            &strain,
             rows,
             columns,
             values,
@@ -58,10 +61,10 @@ fn put_strain(
 }
 
 // The strain operator: four rows a point (rr, zz, tt, rz or xx, yy, zz, xy), and two columns a node.
-pub fn quad_mesh_strain_operator(
+pub fn quad_mesh_strain_operator<'a>(
     family: usize,
-    nodes_rz: &[f64],
-    elements: &[u32],
+    nodes_rz: &'a [f64],
+    elements: &'a [u32],
     element_indices: &[usize],
     reference_points: &[f64],
     formulation: Structural2dFormulation,

@@ -14,24 +14,25 @@ ghost use Rattle.triplets.specs.Strip.{strip, written};
 ghost use Rattle.rows.specs.Values.{listed};
 ghost use Rattle.sparse.specs.Triplets.{tripletsTill, stressValue};
 use definition::OperatorAnswer;
-use definition::Reference;
 use definition::Structural2dFormulation;
 use definition::Verdict;
 
-// The stress values at a reference point of an element: the element's material, turned where pairs are given, times the strain values.
-fn stress_at(
+// The stress values at the reference point (xi, eta) of an element, over the lent array: the element's material, turned where pairs are given, times the strain values.
+fn put_stress_at(
     family: usize,
     nodes_rz: &[f64],
     elements: &[u32],
     element_index: usize,
-    reference: Reference,
+    xi: f64,
+    eta: f64,
     formulation: Structural2dFormulation,
     material_id: usize,
     material_table: &[f64],
     pairs_given: bool,
     pairs: &[f64],
-) -> [f64; 72]
-    ensures { λ r. ⌜ r ≡ listed (stressEntry (orientedMaterial (now («material_table» .entry)) «material_id» «pairs_given» (now (pairs .entry)) «element_index») formulation (basisAt (gathered (record { family = family; nodes = now («nodes_rz» .entry); elements = now (elements .entry) }) «element_index») reference)) (nodesOf family) ⌝ }
+    out: &mut [f64; 72],
+)
+    ensures { λ r. ⌜ now (out .exit) ≡ listed (stressEntry (orientedMaterial (now («material_table» .entry)) «material_id» «pairs_given» (now (pairs .entry)) «element_index») formulation (basisAt (gathered (record { family = family; nodes = now («nodes_rz» .entry); elements = now (elements .entry) }) «element_index») (record { xi = xi; eta = eta }))) (nodesOf family) (now (out .entry)) ⌝ }
 {
     let oriented = material::oriented_material(
         material_table,
@@ -40,15 +41,18 @@ fn stress_at(
         pairs,
         element_index,
     );
-    let strain = rows::strain_at(
+    let mut strain = [0.0; 72];
+    rows::put_strain_at(
         family,
         nodes_rz,
         elements,
         element_index,
-        reference,
+        xi,
+        eta,
         formulation,
+        &mut strain,
     );
-    material::stress_values(&oriented, &strain, family)
+    material::put_stress_values(&oriented, &strain, family, out);
 }
 
 // The triplets of stress, from the lists' first place on; their number.
@@ -71,28 +75,32 @@ fn put_stress(
     ensures { λ r. ⌜ (let q = stressCall (interpolationCall family (now («nodes_rz» .entry)) (now (elements .entry)) (now («element_indices» .entry)) (now («reference_points» .entry))) formulation (now («material_ids» .entry)) (now («material_table» .entry)) «pairs_given» (now (pairs .entry)) in
         strip (now (rows .exit)) (now (columns .exit)) (now (values .exit)) r ≡ written (strip (now (rows .entry)) (now (columns .entry)) (now (values .entry)) 0) (tripletsTill (q .base) 4 2 (stressValue q) (length (now («element_indices» .entry))))) ⌝ }
 {
+    let mut stress = [0.0; 72];
     let mut at: usize = 0;
     let mut p: usize = 0;
     while p < element_indices.len() {
         let element_index = element_indices[p];
         let nodes = mesh::element_nodes(family, elements, element_index);
-        let stress = stress_at(
+        let reference = lists::reference_at(reference_points, p);
+        put_stress_at(
             family,
             nodes_rz,
             elements,
             element_index,
-            lists::reference_at(reference_points, p),
+            reference.xi,
+            reference.eta,
             formulation,
             lists::number_at(material_ids, element_index),
             material_table,
             pairs_given,
             pairs,
+            &mut stress,
         );
         at = triplets::put_component_rows(
             p as u32,
             family,
             nodes,
-            stress,
+            &stress,
             rows,
             columns,
             values,
@@ -104,10 +112,10 @@ fn put_stress(
 }
 
 // The stress operator: material times strain, four rows a point and two columns a node.
-pub fn quad_mesh_stress_operator(
+pub fn quad_mesh_stress_operator<'a>(
     family: usize,
-    nodes_rz: &[f64],
-    elements: &[u32],
+    nodes_rz: &'a [f64],
+    elements: &'a [u32],
     element_indices: &[usize],
     reference_points: &[f64],
     formulation: Structural2dFormulation,

@@ -175,14 +175,14 @@ pub fn put_component_rows(
     p: u32,
     family: usize,
     nodes: &[u32],
-    entries: [f64; 72],
+    entries: &[f64; 72],
     rows: &mut [usize],
     columns: &mut [usize],
     values: &mut [f64],
     at: usize,
 ) -> usize
     ensures { λ r. ⌜ strip (now (rows .exit)) (now (columns .exit)) (now (values .exit)) r ≡ written (strip (now (rows .entry)) (now (columns .entry)) (now (values .entry)) at)
-        (pointTriplets 4 2 (nodesOf family) (λ j. getD (now (nodes .entry)) j 0) (λ i j d. getD entries (2 * nodesOf family * i + 2 * j + d) nan) p) ⌝ }
+        (pointTriplets 4 2 (nodesOf family) (λ j. getD (now (nodes .entry)) j 0) (λ i j d. getD (now (entries .entry)) (2 * nodesOf family * i + 2 * j + d) nan) p) ⌝ }
 {
     let count = elements::nodes_per_element(family);
     let first = 4 * (p as usize);
@@ -194,7 +194,7 @@ pub fn put_component_rows(
             count,
             nodes,
             2,
-            &entries,
+            entries,
             2 * count * i,
             rows,
             columns,

@@ -6,19 +6,20 @@ use Rattle.material.proofs.rotate_material_in_plane.Tie as tie
 
 returns : tie.Need-returns
 returns c =
-    let test = c .before .is-unturned in
-    c .before .before .copy-material .ensures ∙ copied _ _ _ (sym (test .ensures) ∙ c .if1 .taken)
+    let test = c .before .before .is-unturned in
+    c .copy-material .ensures ∙ copied _ _ _ (sym (test .ensures) ∙ c .before .if1 .taken)
 
 returns-2 : tie.Need-returns-2
 returns-2 c =
-    let half = c .before .before .before in
-    let to-global = half .before .before .before in
-    let to-local = to-global .before in
-    let test = to-local .before .before in
-    c .product2 .ensures ∙ (rw (half .product .ensures, to-global .stress-to-global .ensures, to-local .strain-to-local .ensures, test .before .copy-material .ensures)
-    (turned _ _ _ (sym (test .is-unturned .ensures) ∙ to-local .before .if1 .left)))
+    let to-global = c .before .before .before in
+    let half = to-global .before in
+    let to-local = half .before .before in
+    let copy = to-local .before .before in
+    let test = copy .before .before in
+    c .product2 .ensures ∙ (rw (half .product .ensures, to-global .stress-to-global .ensures, to-local .strain-to-local .ensures, copy .copy-material2 .ensures)
+    (turned _ _ _ (sym (test .is-unturned .ensures) ∙ copy .before .if1 .left)))
 
 pub rotate-material-in-plane-spec : {M : Type 1} → statement M
 rotate-material-in-plane-spec =
     tie.close
-    (tie.spec (λ c κs. tt) (λ c κs. tt) returns (λ c κs. tt) (λ c κs. tt) (λ c κs. tt) (λ c κs. tt) returns-2)
+    (tie.spec (λ c κs. tt) (λ c κs. tt) returns (λ c κs. tt) (λ c κs. tt) (λ c κs. tt) (λ c κs. tt) (λ c κs. tt) returns-2)

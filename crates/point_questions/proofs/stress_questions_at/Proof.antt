@@ -2,15 +2,19 @@
 use borrow.Author.Needs.{needs}
 use mathlib.Core.List.{[], _∷_}
 use lib.Dec.{ltb}
+use lib.Ieee.{ofBits}
 use Rattle.definition.specs.Mesh.{Mesh, gathered}
 use Rattle.definition.specs.Questions.{ask, elementKnown, notInverted, offAxis}
 use Rattle.definition.proofs.Passing.{asked-then}
+use Rattle.mesh.proofs.Gathering.{gathered-is}
 use Rattle.point_questions.proofs.stress_questions_at.Statement.{statement}
 use Rattle.point_questions.proofs.stress_questions_at.Tie as tie
 
 returns : tie.Need-returns
+unfolding ofBits
 returns c =
-    let t = c .before .before in
+    let nodes = c .before .before in
+    let t = nodes .before .before .before in
     let q = t .before in
     let a = q .before .before .before .args in
     let m : Mesh = record { family = a .family; nodes = a .nodes-rz .now; elements = a .elements .now } in
@@ -19,7 +23,7 @@ returns c =
     let material = ask 15 (a .p) (ltb (a .material) (a .materials)) in
     asked-then (known ∷ material ∷ []) (notInverted e (a .p) (a .reference) ∷ offAxis (a .formulation) e (a .p) (a .reference))
     (asked-then (known ∷ []) (material ∷ []) (q .element-question .ensures) (t .then .ensures))
-    (rw (c .before .element-coords .ensures) at (c .place-questions .ensures))
+    (rw (gathered-is m (a .element-index) (nodes .nodes-per-element .ensures .0) (nodes .before .put-element-coords .ensures)) at (c .place-questions .ensures))
 
 pub stress-questions-at-spec : {M : Type 1} → statement M
-stress-questions-at-spec = tie.close (tie.spec (λ c κs. search needs) (λ c κs. search needs) (λ c κs. search needs) (λ c κs. search needs) returns)
+stress-questions-at-spec = tie.close (tie.spec (λ c κs. search needs) (λ c κs. search needs) (λ c κs. search needs) (λ c κs. search needs) (λ c κs. search needs) returns)

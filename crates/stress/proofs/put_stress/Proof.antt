@@ -15,12 +15,12 @@ use Rattle.stress.proofs.put_stress.Statement.{statement}
 use Rattle.stress.proofs.put_stress.Tie as tie
 
 abbrev Inv-loop : tie.InvT-loop
-Inv-loop family nodes-rz elements element-indices reference-points formulation material-ids material-table pairs-given pairs rows₀ columns₀ values₀ at₀ p₀ rows columns values at p =
+Inv-loop family nodes-rz elements element-indices reference-points formulation material-ids material-table pairs-given pairs rows₀ columns₀ values₀ stress₀ at₀ p₀ rows columns values stress at p =
     (let q = stressCall (interpolationCall family nodes-rz elements element-indices reference-points) formulation material-ids material-table pairs-given pairs in
     (p ≤ length element-indices) × (strip rows columns values at ≡ written (strip rows₀ columns₀ values₀ 0) (tripletsTill (q .base) 4 2 (stressValue q) p)))
 
 abbrev μ-loop : tie.MeasureT-loop
-μ-loop family nodes-rz elements element-indices reference-points formulation material-ids material-table pairs-given pairs rows₀ columns₀ values₀ at₀ p₀ rows columns values at p = length element-indices - p
+μ-loop family nodes-rz elements element-indices reference-points formulation material-ids material-table pairs-given pairs rows₀ columns₀ values₀ stress₀ at₀ p₀ rows columns values stress at p = length element-indices - p
 
 abbrev start : tie.At-loop Inv-loop μ-loop → tie.Start Inv-loop μ-loop
 start l = l .before .before .before .before .before .before .before .before .before .before .before
@@ -43,23 +43,24 @@ loop-holds c = (search needs, refl)
 
 cast-put-component-rows : tie.Need-cast-put-component-rows Inv-loop μ-loop
 cast-put-component-rows c =
-    let i = c .before .before .before .before .before in
+    let i = c .before .before .before .before .before .before in
     omega (arith, i .loop-test .taken, start (i .before) .pre)
 
 add-p : tie.Need-add-p Inv-loop μ-loop
 add-p c =
-    let i = c .before .before .before .before .before .before .before .before .before .before .before .before .before .before .before in
+    let i = c .before .before .before .before .before .before .before .before .before .before .before .before .before .before .before .before .before in
     omega (arith, i .loop-test .taken, start (i .before) .pre)
 
 loop-again : tie.Need-loop-again Inv-loop μ-loop
 loop-again c =
     let put = c .before .before .before .before .before .before in
-    let stress = put .before .before .before .before in
-    let reference = stress .before .before in
+    let stress = put .before .before .before .before .before in
+    let number = stress .before .before in
+    let reference = number .before in
     let nodes = reference .before in
     let l = nodes .before .before .before in
     let q = asking l in
-    (search needs, component-next (q .base) (lent l) (l .loop .p) (nodes .element-nodes .ensures) (stressValue q) (l .loop .inv .1) (rw (reference .reference-at .ensures, stress .before .number-at .ensures) at (stress .stress-at .ensures)) (put .put-component-rows .ensures))
+    (search needs, component-next (q .base) (lent l) (l .loop .p) (nodes .element-nodes .ensures) (stressValue q) _ (l .loop .inv .1) (rw (reference .reference-at .ensures, number .number-at .ensures) at (stress .put-stress-at .ensures)) (put .put-component-rows .ensures))
 
 kept-length : (i : ℕ) (c : tie.After-loop Inv-loop μ-loop) →
     let l = c .before .loop in

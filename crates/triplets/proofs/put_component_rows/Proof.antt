@@ -14,11 +14,11 @@ use Rattle.triplets.proofs.put_component_rows.Statement.{statement}
 use Rattle.triplets.proofs.put_component_rows.Tie as tie
 
 abbrev Inv-loop : tie.InvT-loop
-Inv-loop p family nodes rows₀ columns₀ values₀ at entries count first next₀ i₀ rows columns values next i =
+Inv-loop p family nodes entries rows₀ columns₀ values₀ at count first next₀ i₀ rows columns values next i =
     (i ≤ 4) × (strip rows columns values next ≡ written (strip rows₀ columns₀ values₀ at) (each (λ i. each (λ j. each (λ d. kept (4 * p + i) (2 * getD nodes j 0 + d) (getD entries (2 * count * i + 2 * j + d) nan)) 2) count) i))
 
 abbrev μ-loop : tie.MeasureT-loop
-μ-loop p family nodes rows₀ columns₀ values₀ at entries count first next₀ i₀ rows columns values next i = 4 - i
+μ-loop p family nodes entries rows₀ columns₀ values₀ at count first next₀ i₀ rows columns values next i = 4 - i
 
 abbrev counted : tie.At-loop Inv-loop μ-loop → tie.After-nodes-per-element Inv-loop μ-loop
 counted l = l .before
@@ -42,7 +42,7 @@ mul-put-row-2 c = omega (arith, fits (c .before))
 put-row-requires : tie.Need-put-row-requires Inv-loop μ-loop
 put-row-requires c κs =
     let i = c .before .before .before .before in
-    (search needs, omega arith, omega (arith, fits i, start (i .before) .good .1 .1 .1 .0))
+    (search needs, omega arith, omega (arith, fits i, c .before .before .before .put-row-arg .given))
 
 loop-again : tie.Need-loop-again Inv-loop μ-loop
 loop-again c =
@@ -72,7 +72,6 @@ put-component-rows-spec =
     (λ c κs. search needs)
     (λ c. search needs)
     loop-holds
-    (λ c. search needs)
     (λ c. search needs)
     (λ c. search needs)
     mul-put-row-2
