@@ -41,11 +41,11 @@ fn read_floats(bits: &[u64], floats: &mut [f64])
 // ---- the query
 
 // The listing of a query of at most 256 points.
-fn put_query(
+fn put_query<'a>(
     family: usize,
     iterations: usize,
-    nodes_rz: &[f64],
-    elements: &[u32],
+    nodes_rz: &'a [f64],
+    elements: &'a [u32],
     points: &[f64],
     out: &mut [u8],
 ) -> usize

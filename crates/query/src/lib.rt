@@ -45,11 +45,11 @@ fn query_answer(
 
 // The query: the nearest node, element and face of each of n points, written to the first n places of each list, the first 2n of a list of coordinate pairs.
 // A refusal leaves every list as it was. `max_iterations` is the limit of steps of a search, at most 1,000.
-pub fn query_quad_mesh(
+pub fn query_quad_mesh<'a>(
     family: usize,
     max_iterations: usize,
-    nodes_rz: &[f64],
-    elements: &[u32],
+    nodes_rz: &'a [f64],
+    elements: &'a [u32],
     points: &[f64],
     nearest_node_indices: &mut [usize],
     nearest_node_points: &mut [f64],

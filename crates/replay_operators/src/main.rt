@@ -321,10 +321,10 @@ fn put_all(
 // ---- a case
 
 // Calls the operator that a case names.
-fn call_operator(
+fn call_operator<'a>(
     case: &[u8],
-    nodes_rz: &[f64],
-    elements: &[u32],
+    nodes_rz: &'a [f64],
+    elements: &'a [u32],
     element_indices: &[usize],
     reference_points: &[f64],
     material_ids: &[usize],
@@ -377,10 +377,10 @@ fn call_operator(
 }
 
 // Lends the lists for the triplets, as long as the case says; how many bytes the answer's text has.
-fn answer_lists(
+fn answer_lists<'a>(
     case: &[u8],
-    nodes_rz: &[f64],
-    elements: &[u32],
+    nodes_rz: &'a [f64],
+    elements: &'a [u32],
     element_indices: &[usize],
     reference_points: &[f64],
     material_ids: &[usize],
