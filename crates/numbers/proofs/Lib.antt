@@ -1,0 +1,2 @@
+-- A theorem of the numbers.
+pub mod Told
