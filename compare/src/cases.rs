@@ -10,12 +10,12 @@
 //!
 //! `compare operator-turns` prints all turns with the cases that tell them.
 
-mod angles;
-mod build;
+pub mod angles;
+pub mod build;
 mod edges;
 mod lists;
 mod numbers;
-mod refusals;
+pub mod refusals;
 mod roundings;
 mod shapes;
 
@@ -88,8 +88,13 @@ const KINDS: [(&str, Generator); 50] = [
 ];
 
 pub fn all() -> Vec<Case> {
+    drawn(0)
+}
+
+/// The same kinds with other random numbers. Seed 0 draws the stored list.
+pub fn drawn(seed: u64) -> Vec<Case> {
     let of_kind = |(kind, generate): (&'static str, Generator)| {
-        let calls = generate(&mut Random::of_kind(kind));
+        let calls = generate(&mut Random::seeded(kind, seed));
         calls.into_iter().map(move |call| Case { kind, call })
     };
     KINDS.into_iter().flat_map(of_kind).collect()

@@ -52,7 +52,7 @@ pub fn answer(job: &[u8]) -> Vec<u8> {
 /// The listing of a job file, its numbers computed by `nearest`, which sees accepted jobs only.
 pub fn answer_by(job: &[u8], nearest: impl Fn(&Query) -> Vec<Answer>) -> Vec<u8> {
     match accept(job) {
-        Ok(query) => listing(repeated(&query), &nearest(&query)),
+        Ok(query) => listing(repeated(rows(&query)), &nearest(&query)),
         Err(refusal) => format!("refused {} {}\n", refusal.number, refusal.place).into_bytes(),
     }
 }
@@ -157,27 +157,45 @@ fn node_number(bytes: &[u8]) -> u32 {
 /// program lends itself enough room.
 fn ask_query(query: &Query) -> Result<(), Refusal> {
     ask(query.limit <= MOST_ITERATIONS, 4, 0)?;
-    for (element, numbers) in query.elements.iter().enumerate() {
-        let known = |&number: &u32| (number as usize) < query.nodes.len();
-        ask(numbers.iter().all(known), 8, element)?;
-    }
+    ask_node_numbers(rows(query), query.nodes.len())?;
     ask(!query.nodes.is_empty(), 9, 0)?;
     ask(!query.elements.is_empty(), 10, 0)
+}
+
+fn rows(query: &Query) -> impl Iterator<Item = &[u32]> {
+    query.elements.iter().map(Vec::as_slice)
+}
+
+/// 8, element by element.
+pub fn ask_node_numbers<'a>(
+    elements: impl Iterator<Item = &'a [u32]>,
+    node_count: usize,
+) -> Result<(), Refusal> {
+    for (element, numbers) in elements.enumerate() {
+        let known = |&number: &u32| (number as usize) < node_count;
+        ask(numbers.iter().all(known), 8, element)?;
+    }
+    Ok(())
 }
 
 // ---- the counts and the listing
 
 /// How many elements have fewer distinct node numbers than their family.
-fn repeated(query: &Query) -> usize {
-    let repeats = |numbers: &&Vec<u32>| {
+pub fn repeated<'a>(elements: impl Iterator<Item = &'a [u32]>) -> usize {
+    let repeats = |numbers: &&[u32]| {
         let seen_before = |at: usize| numbers[..at].contains(&numbers[at]);
         (0..numbers.len()).any(seen_before)
     };
-    query.elements.iter().filter(repeats).count()
+    elements.filter(repeats).count()
+}
+
+/// How many points have an element at distance 0.
+pub fn inside(distances: impl Iterator<Item = f64>) -> usize {
+    distances.filter(|&distance| distance == 0.0).count()
 }
 
 fn listing(repeated: usize, answers: &[Answer]) -> Vec<u8> {
-    let inside = answers.iter().filter(|answer| answer.element_distance == 0.0).count();
+    let inside = inside(answers.iter().map(|answer| answer.element_distance));
     let mut text = format!("query {} {repeated} {inside}\n", answers.len());
     for (point, answer) in answers.iter().enumerate() {
         text += &line(point, answer);

@@ -12,13 +12,13 @@
 //!
 //! Many jobs of other kinds tell it too; `compare turns` prints them all.
 
-mod choices;
-mod files;
+pub mod choices;
+pub mod files;
 pub mod mesh;
 pub mod numbers;
 mod probes;
 pub mod random;
-mod refusals;
+pub mod refusals;
 mod searches;
 pub mod shapes;
 
@@ -75,8 +75,13 @@ const KINDS: [(&str, Generator); 36] = [
 ];
 
 pub fn all() -> Vec<Job> {
+    drawn(0)
+}
+
+/// The same kinds with other random numbers. Seed 0 draws the stored list.
+pub fn drawn(seed: u64) -> Vec<Job> {
     let of_kind = |(kind, generate): (&'static str, Generator)| {
-        let files = generate(&mut Random::of_kind(kind));
+        let files = generate(&mut Random::seeded(kind, seed));
         files.into_iter().map(move |bytes| Job { kind, bytes })
     };
     KINDS.into_iter().flat_map(of_kind).collect()

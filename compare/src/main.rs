@@ -3,34 +3,27 @@
 
 #![forbid(unsafe_code)]
 
-mod cases;
-mod document01;
-mod jobs;
-mod operator_turns;
-mod operators;
-mod published;
-mod rounding;
-mod wrong_turns;
-
-use cases::Case;
-use jobs::Job;
-// The published files find each other by these paths.
-use published::{mesh, physics};
+use compare::cases::{self, Case};
+use compare::jobs::{self, Job};
+use compare::wrong_turns::{self, Turn};
+use compare::{document01, kit, operator_turns, operators};
 use std::io::{self, Read, Write};
 use std::path::Path;
 use std::process::ExitCode;
 use std::{env, fs};
-use wrong_turns::Turn;
 
 const USAGE: &str = "\
 compare answer      reads a job file from standard input and writes its listing
 compare write DIR   writes the stored list: the jobs to DIR/stdin, their listings to DIR/stdout
 compare kinds       prints how many jobs of each kind the list has
-compare turns       prints which jobs tell each wrong turn (half a minute)
+compare turns       prints which jobs tell each wrong turn (a minute)
 
 compare write-operators DIR   writes the list of operator cases: the cases to DIR/stdin, their texts to DIR/stdout
 compare operator-kinds        prints how many cases of each kind the list has
 compare operator-turns        prints which cases tell each wrong turn
+
+compare write-kit DIR   writes the conformance kit's jobs and listings to DIR/jobs and DIR/listings
+compare kit-turns       prints which files of the kit catch each wrong program (half a minute)
 ";
 
 fn main() -> io::Result<ExitCode> {
@@ -43,6 +36,8 @@ fn main() -> io::Result<ExitCode> {
         ["write-operators", folder] => write_operators(Path::new(folder))?,
         ["operator-kinds"] => operator_kinds(),
         ["operator-turns"] => operator_turns(),
+        ["write-kit", folder] => kit::write(Path::new(folder))?,
+        ["kit-turns"] => print!("{}", kit::variants_text()),
         _ => {
             eprint!("{USAGE}");
             return Ok(ExitCode::FAILURE);

@@ -3,8 +3,11 @@
 //! No value is computed here. The triplets of an accepted call come from the published Rust, and so do the
 //! determinant and the radius that questions 16 and 17 compare.
 
-use crate::document01::{Refusal, ask, digits};
+use crate::document01::{Refusal, ask, ask_node_numbers, digits};
 use crate::published;
+
+/// Most nodes, elements, points, element numbers and materials that a call may have (questions 2, 3, 5 and 6).
+pub const MOST: usize = 1_000_000;
 
 #[derive(Clone, Copy, Debug, PartialEq)]
 pub enum Operator {
@@ -36,16 +39,16 @@ pub enum Pairs {
 #[derive(Clone)]
 pub struct Call {
     pub operator: Operator,
-    pub family: u8,
+    pub family: u64,
     pub formulation: Formulation,
     pub thickness: f64,
-    /// The byte that is stored for plane strain and for given pairs: any but 0.
-    pub yes: u8,
+    /// The number that stands for plane strain and for given pairs: any but 0. A stored case has it in a byte.
+    pub yes: u64,
     pub nodes: Vec<f64>,
     pub elements: Vec<u32>,
-    pub element_indices: Vec<u32>,
+    pub element_indices: Vec<usize>,
     pub reference_points: Vec<f64>,
-    pub material_ids: Vec<u32>,
+    pub material_ids: Vec<usize>,
     pub material_table: Vec<f64>,
     pub pairs: Pairs,
     /// How many places beyond the worst case the lent rows, columns and values have; below 0, how many they
@@ -111,6 +114,10 @@ impl Call {
         }
     }
 
+    pub fn yes_or_no(&self, yes: bool) -> u64 {
+        if yes { self.yes } else { 0 }
+    }
+
     pub fn rows_a_point(&self) -> usize {
         if self.operator == Operator::Interpolation { 1 } else { 4 }
     }
@@ -132,28 +139,30 @@ impl Call {
 
 // ---- the questions
 
-/// The first question answered "no". The lists of a case are too short to pass any limit of 1,000,000.
+/// The first question answered "no".
 pub fn questions(call: &Call) -> Result<(), Refusal> {
     let stress = call.operator == Operator::Stress;
     ask(call.family == 4 || call.family == 9, 1, 0)?;
-    ask(call.nodes.len().is_multiple_of(2), 2, 0)?;
-    ask(call.elements.len().is_multiple_of(call.size()), 3, 0)?;
-    ask(call.reference_points.len().is_multiple_of(2), 5, 0)?;
+    ask(whole(call.nodes.len(), 2), 2, 0)?;
+    ask(whole(call.elements.len(), call.size()), 3, 0)?;
+    ask(whole(call.reference_points.len(), 2) && call.points() <= MOST, 5, 0)?;
     ask(!stress || materials_whole(call), 6, 0)?;
     ask(call.lent().iter().all(|&places| places >= call.worst_case()), 7, 0)?;
-    for (element, numbers) in call.elements.chunks(call.size()).enumerate() {
-        let known = |&number: &u32| (number as usize) < call.node_count();
-        ask(numbers.iter().all(known), 8, element)?;
-    }
+    ask_node_numbers(call.elements.chunks(call.size()), call.node_count())?;
     ask(call.points() == call.reference_points.len() / 2, 11, 0)?;
     ask(!stress || call.material_ids.len() == call.element_count(), 12, 0)?;
     ask(!stress || pairs_match(call), 13, 0)?;
     (0..call.points()).try_for_each(|point| point_questions(call, point))
 }
 
+/// Whether a list of some length is whole parts of some size, and not too many.
+pub fn whole(length: usize, size: usize) -> bool {
+    length.is_multiple_of(size) && length / size <= MOST
+}
+
 fn materials_whole(call: &Call) -> bool {
     let even = !call.pairs_given() || call.pair_list().len().is_multiple_of(2);
-    call.material_table.len().is_multiple_of(16) && even
+    whole(call.material_table.len(), 16) && even
 }
 
 fn pairs_match(call: &Call) -> bool {
@@ -162,10 +171,10 @@ fn pairs_match(call: &Call) -> bool {
 
 /// 14 to 17. A NaN is not ≤ anything, so it passes 16 and 17.
 fn point_questions(call: &Call, point: usize) -> Result<(), Refusal> {
-    let element = call.element_indices[point] as usize;
+    let element = call.element_indices[point];
     ask(element < call.element_count(), 14, point)?;
     if call.operator == Operator::Stress {
-        let material = call.material_ids[element] as usize;
+        let material = call.material_ids[element];
         ask(material < call.material_table.len() / 16, 15, point)?;
     }
     if call.operator != Operator::Interpolation {
@@ -187,14 +196,15 @@ impl Call {
     /// Four bytes and the thickness, ten counts, then the numbers of the seven lists.
     pub fn bytes(&self) -> Vec<u8> {
         let pairs = self.pair_list();
-        let yes_or_no = |yes: bool| if yes { self.yes } else { 0 };
         let in_plane = self.formulation == Formulation::PlaneStrain;
-        let mut bytes =
-            vec![self.operator as u8, self.family, yes_or_no(in_plane), yes_or_no(self.pairs_given())];
+        let mut bytes = vec![self.operator as u8];
+        bytes.extend(
+            [self.family, self.yes_or_no(in_plane), self.yes_or_no(self.pairs_given())].map(one_byte),
+        );
         bytes.extend(self.thickness.to_le_bytes());
         bytes.extend(self.counts().into_iter().flat_map(two_bytes));
         bytes.extend(floats(&self.nodes));
-        bytes.extend(indices(&self.elements));
+        bytes.extend(self.elements.iter().flat_map(|number| number.to_le_bytes()));
         bytes.extend(indices(&self.element_indices));
         bytes.extend(floats(&self.reference_points));
         bytes.extend(indices(&self.material_ids));
@@ -221,6 +231,14 @@ impl Call {
     }
 }
 
+fn one_byte(number: u64) -> u8 {
+    u8::try_from(number).expect("a stored family, formulation or yes/no is a byte")
+}
+
+fn four_bytes(index: usize) -> [u8; 4] {
+    u32::try_from(index).expect("a stored index has four bytes").to_le_bytes()
+}
+
 fn two_bytes(count: usize) -> [u8; 2] {
     u16::try_from(count).expect("a case's lists are short").to_le_bytes()
 }
@@ -229,8 +247,8 @@ fn floats(list: &[f64]) -> Vec<u8> {
     list.iter().flat_map(|number| number.to_le_bytes()).collect()
 }
 
-fn indices(list: &[u32]) -> Vec<u8> {
-    list.iter().flat_map(|number| number.to_le_bytes()).collect()
+fn indices(list: &[usize]) -> Vec<u8> {
+    list.iter().flat_map(|&number| four_bytes(number)).collect()
 }
 
 /// `kept` says that the lent lists hold what they held, from the last triplet on or, if refused, everywhere.

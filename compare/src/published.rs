@@ -7,6 +7,7 @@
 use crate::document01::{Answer, Query};
 use crate::operator_turns::material::{Matrix, matrices, oriented};
 use crate::operators::{Built, Call, Formulation, Operator, Pairs, Triplet};
+use crate::queries::QueryCall;
 use mesh::elements::quad2d::mapping;
 use mesh::quad2d::{
     Quad4ReferenceElement, Quad9ReferenceElement, QuadMeshQueryResult, QuadMeshSparseOperator,
@@ -61,19 +62,45 @@ pub use eight_files::{mesh, physics};
 ///
 /// The Rust warns of repeated nodes on standard error; document 01 has a count in its place.
 pub fn nearest(query: &Query) -> Vec<Answer> {
-    match query.family {
-        4 => nearest_in::<Quad4ReferenceElement, 4>(query),
-        9 => nearest_in::<Quad9ReferenceElement, 9>(query),
+    let Query { family, limit, nodes, elements, points } = query;
+    let result = query_lists((*family).into(), nodes, &elements.concat(), points, (*limit).into())
+        .expect("the Rust accepts what document 01 accepts");
+    (0..points.len()).map(|point| answer_of(&result, point)).collect()
+}
+
+/// The twelve lists of the Rust, or why it refuses a call whose lists are whole.
+pub fn query(call: &QueryCall) -> Result<QuadMeshQueryResult<f64>, String> {
+    let limit = usize::try_from(call.limit).expect("document 01 refuses more than 1,000 iterations");
+    query_lists(call.family, &pairs(&call.nodes), &call.elements, &pairs(&call.points), limit)
+}
+
+fn query_lists(
+    family: u64,
+    nodes: &[[f64; 2]],
+    elements: &[u32],
+    points: &[[f64; 2]],
+    limit: usize,
+) -> Result<QuadMeshQueryResult<f64>, String> {
+    match family {
+        4 => query_in::<Quad4ReferenceElement, 4>(nodes, elements, points, limit),
+        9 => query_in::<Quad9ReferenceElement, 9>(nodes, elements, points, limit),
         family => panic!("document 01 refuses family {family}"),
     }
 }
 
-fn nearest_in<E: QuadReferenceElement<F>, const F: usize>(query: &Query) -> Vec<Answer> {
-    let elements: Vec<[usize; F]> = query.elements.iter().map(|row| numbers(row)).collect();
-    let mesh = QuadMeshView2d { nodes_rz: &query.nodes, elements: &elements };
-    let result = query_quad_mesh::<E, f64, F>(mesh, &query.points, query.limit.into())
-        .expect("the Rust accepts what document 01 accepts");
-    (0..query.points.len()).map(|point| answer_of(&result, point)).collect()
+fn query_in<E: QuadReferenceElement<F>, const F: usize>(
+    nodes: &[[f64; 2]],
+    elements: &[u32],
+    points: &[[f64; 2]],
+    limit: usize,
+) -> Result<QuadMeshQueryResult<f64>, String> {
+    let elements = rows_of(elements);
+    query_quad_mesh::<E, f64, F>(QuadMeshView2d { nodes_rz: nodes, elements: &elements }, points, limit)
+}
+
+/// The connectivity in the Rust's form.
+pub fn rows_of<const F: usize>(elements: &[u32]) -> Vec<[usize; F]> {
+    elements.chunks_exact(F).map(numbers).collect()
 }
 
 fn numbers<const F: usize>(row: &[u32]) -> [usize; F] {
@@ -113,18 +140,18 @@ fn operator_in<E: QuadReferenceElement<F>, const F: usize, const DOF: usize>(
     call: &Call,
 ) -> Result<QuadMeshSparseOperator<f64>, String> {
     let nodes = pairs(&call.nodes);
-    let elements: Vec<[usize; F]> = call.elements.chunks_exact(F).map(numbers).collect();
+    let elements = rows_of(&call.elements);
     let mesh = QuadMeshView2d { nodes_rz: &nodes, elements: &elements };
-    let indices = numbers_of(&call.element_indices);
+    let indices = &call.element_indices;
     let points = pairs(&call.reference_points);
     let formulation = formulation(call);
     match call.operator {
-        Operator::Interpolation => quad_mesh_interpolation_operator::<E, f64, F>(mesh, &indices, &points),
-        Operator::Strain => quad_mesh_strain_operator::<E, F, DOF>(mesh, &indices, &points, formulation),
+        Operator::Interpolation => quad_mesh_interpolation_operator::<E, f64, F>(mesh, indices, &points),
+        Operator::Strain => quad_mesh_strain_operator::<E, F, DOF>(mesh, indices, &points, formulation),
         Operator::Stress => {
             let Materials { ids, table, angles } = materials(call);
             let angles = angles.as_deref();
-            quad_mesh_stress_operator::<E, F, DOF>(mesh, &indices, &points, &ids, &table, angles, formulation)
+            quad_mesh_stress_operator::<E, F, DOF>(mesh, indices, &points, &ids, &table, angles, formulation)
         }
     }
 }
@@ -136,12 +163,8 @@ fn formulation(call: &Call) -> Structural2dFormulation {
     }
 }
 
-fn pairs(list: &[f64]) -> Vec<[f64; 2]> {
+pub fn pairs(list: &[f64]) -> Vec<[f64; 2]> {
     list.chunks_exact(2).map(|pair| [pair[0], pair[1]]).collect()
-}
-
-fn numbers_of(list: &[u32]) -> Vec<usize> {
-    list.iter().map(|&number| number as usize).collect()
 }
 
 /// What the Rust's stress takes of the materials.
@@ -154,7 +177,7 @@ struct Materials {
 /// The Rust takes angles. Pairs that no angle has are turned by our own reading of `rotate_material_in_plane`,
 /// one material an element, and the Rust is given the turned materials and no angles.
 fn materials(call: &Call) -> Materials {
-    let ids = numbers_of(&call.material_ids);
+    let ids = call.material_ids.clone();
     let table = matrices(&call.material_table);
     match &call.pairs {
         Pairs::NotGiven(_) => Materials { ids, table, angles: None },
@@ -180,11 +203,10 @@ fn determinant_and_radius_in<E: QuadReferenceElement<F>, const F: usize>(
     call: &Call,
     point: usize,
 ) -> (f64, f64) {
-    let element = call.element_indices[point] as usize;
-    let nodes = pairs(&call.nodes);
-    let row: [usize; F] = numbers(&call.elements[F * element..]);
-    let coordinates = row.map(|node| nodes[node]);
-    let [xi, eta] = pairs(&call.reference_points)[point];
+    let pair_at = |list: &[f64], at: usize| [list[2 * at], list[2 * at + 1]];
+    let row: [usize; F] = numbers(&call.elements[F * call.element_indices[point]..]);
+    let coordinates = row.map(|node| pair_at(&call.nodes, node));
+    let [xi, eta] = pair_at(&call.reference_points, point);
     let jacobian = mapping::jacobian(&coordinates, &E::grad_ref(xi, eta));
     let [radius, _] = mapping::map_point(&coordinates, &E::shape(xi, eta));
     (mapping::det_j(&jacobian), radius)

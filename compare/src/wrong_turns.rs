@@ -47,8 +47,16 @@ pub enum Turn {
 
     // Another order of operations.
     SumBackwards,
+    SumByPairs,
     BubbleFactored,
     ReciprocalDeterminant,
+    ReciprocalTangentSquare,
+    /// The square of J's determinant in place of the determinant of J transposed times J.
+    DeterminantOfJacobian,
+    /// A root that is not correctly rounded.
+    RootByReciprocal,
+    /// A subnormal squared distance counts as 0.
+    SubnormalsFlushed,
 
     // Another choice among candidates.
     /// Squared distances where rooted ones decide, or the other way round.
@@ -60,6 +68,8 @@ pub enum Turn {
     StepsForgotten,
     OnlyFirstSeedSteps,
     FirstBestIsStepped,
+    MidsidesBeforeCorners,
+    BestOnTheWay,
     DeterminantBoundPassed,
     DeterminantBoundDoubled,
     DeterminantBoundMissing,
@@ -69,10 +79,15 @@ pub enum Turn {
     ShortStepBoundDoubled,
     ShortStepNotStored,
     ShortStepGoesOn,
+    ShortBeforeClamp,
 
     // Another face search.
     FaceStepsForgotten,
     FaceFirstBestIsSeed,
+    FaceMiddleSeedFirst,
+    FaceBestOnTheWay,
+    /// Faces 2 and 3 run with ξ and η, not counter-clockwise.
+    FacesNotTurned,
     TangentBoundPassed,
     TangentBoundDoubled,
     TangentBoundMissing,
@@ -112,11 +127,18 @@ impl Turn {
             FusedFaceGradientFirst,
             FusedFaceGradientSecond,
             SumBackwards,
+            SumByPairs,
             BubbleFactored,
             ReciprocalDeterminant,
+            ReciprocalTangentSquare,
+            DeterminantOfJacobian,
+            RootByReciprocal,
+            SubnormalsFlushed,
             StepsForgotten,
             OnlyFirstSeedSteps,
             FirstBestIsStepped,
+            MidsidesBeforeCorners,
+            BestOnTheWay,
             DeterminantBoundPassed,
             DeterminantBoundDoubled,
             DeterminantBoundMissing,
@@ -126,8 +148,12 @@ impl Turn {
             ShortStepBoundDoubled,
             ShortStepNotStored,
             ShortStepGoesOn,
+            ShortBeforeClamp,
             FaceStepsForgotten,
             FaceFirstBestIsSeed,
+            FaceMiddleSeedFirst,
+            FaceBestOnTheWay,
+            FacesNotTurned,
             TangentBoundPassed,
             TangentBoundDoubled,
             TangentBoundMissing,
@@ -174,14 +200,14 @@ fn nearest_to(point: [f64; 2], query: &Query, elements: &[Element], turn: Turn) 
     let face = turn.first_least(Choice::Faces, faces.iter().map(|found| found.squared));
     Answer {
         node,
-        node_distance: nodes[node].sqrt(),
+        node_distance: turn.root(nodes[node]),
         element,
         reference: inner[element].at,
-        element_distance: inner[element].squared.sqrt(),
+        element_distance: turn.root(inner[element].squared),
         face_element: face / 4,
         face: (face % 4) as u8,
         s: faces[face].at,
-        face_distance: faces[face].squared.sqrt(),
+        face_distance: turn.root(faces[face].squared),
     }
 }
 
@@ -202,7 +228,15 @@ impl Turn {
         let across = from[0] - to[0];
         let along = from[1] - to[1];
         let fusing = [Turn::FusedDistanceFirst, Turn::FusedDistanceSecond];
-        self.two_products(fusing, across, across, along, along)
+        let square = self.two_products(fusing, across, across, along, along);
+        if self == Turn::SubnormalsFlushed && square.is_subnormal() { 0.0 } else { square }
+    }
+
+    fn root(self, squared: f64) -> f64 {
+        match self {
+            Turn::RootByReciprocal if squared.is_normal() => squared * (1.0 / squared.sqrt()),
+            _ => squared.sqrt(),
+        }
     }
 
     /// The index of the first least of some squared distances, by the measure that the choice compares.
@@ -219,7 +253,7 @@ impl Turn {
 
     fn measure(self, choice: Choice, squared: f64) -> f64 {
         let rooted = matches!(choice, Choice::Elements | Choice::Faces);
-        if rooted != (self == Turn::OtherMeasure(choice)) { squared.sqrt() } else { squared }
+        if rooted != (self == Turn::OtherMeasure(choice)) { self.root(squared) } else { squared }
     }
 
     fn replaces(self, choice: Choice, new: f64, best: f64) -> bool {

@@ -27,7 +27,7 @@ impl Call {
     pub fn of(operator: Operator, mesh: &Mesh) -> Call {
         let call = Call {
             operator,
-            family: mesh.family,
+            family: mesh.family.into(),
             formulation: Formulation::Axisymmetric,
             thickness: 1.0,
             yes: 1,
@@ -45,7 +45,7 @@ impl Call {
 
     pub fn at(mut self, points: &[Point]) -> Call {
         for &(element, reference) in points {
-            self.element_indices.push(element as u32);
+            self.element_indices.push(element);
             self.reference_points.extend(reference);
         }
         self
@@ -58,7 +58,7 @@ impl Call {
 
     /// The elements take the materials in turn.
     pub fn made_of(mut self, materials: &[Material]) -> Call {
-        let number = |element| (element % materials.len()) as u32;
+        let number = |element| element % materials.len();
         self.material_ids = (0..self.element_count()).map(number).collect();
         self.material_table = materials.concat();
         self

@@ -35,7 +35,7 @@ fn no_materials() -> Vec<Call> {
     let mesh = Mesh::of(4, &[RING, RING]);
     let mut call = Call::of(Operator::Stress, &mesh);
     call.material_table.clear();
-    call.material_ids = vec![7, u32::MAX];
+    call.material_ids = vec![7, u32::MAX as usize];
     let turned = call.clone().turned_by(&[0.7, f64::NAN]);
     let mut second_unknown = Call::of(Operator::Stress, &mesh).at(&[(0, [0.5, 0.5])]).turned_by(&[0.7]);
     second_unknown.material_ids = vec![0, 1];

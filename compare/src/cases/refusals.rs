@@ -7,11 +7,14 @@ use crate::jobs::random::Random;
 use crate::operator_turns::questions::asked_by;
 use crate::operators::{Call, OPERATORS, Operator, Pairs};
 
+/// The largest index that a stored case can have.
+const LARGEST: usize = u32::MAX as usize;
+
 /// Elements and points of a sound call.
 const COUNT: usize = 3;
 
 /// A call that is accepted. Point p is in element 2 - p, so that a point is not taken for its element.
-fn sound(operator: Operator, family: u8) -> Call {
+pub fn sound(operator: Operator, family: u8) -> Call {
     let mesh = Mesh::grid(family, 3, 1, |[x, y]| [1.0 + x, y]);
     let points: [Point; COUNT] = [(2, [0.25, -0.5]), (1, [0.5, 0.0]), (0, [-0.75, 0.25])];
     let call = Call::of(operator, &mesh).at(&points);
@@ -20,8 +23,8 @@ fn sound(operator: Operator, family: u8) -> Call {
 
 /// The call with one fault, which makes the answer to the question "no". `at` is the element for 8 and the point
 /// for 14 to 17; other questions have no place.
-fn planted(mut call: Call, number: u8, at: usize) -> Call {
-    let element = call.element_indices.get(at).map_or(0, |&element| element as usize);
+pub fn planted(mut call: Call, number: u8, at: usize) -> Call {
+    let element = call.element_indices.get(at).copied().unwrap_or(0);
     let size = call.size();
     match number {
         1 => call.family = 5,
@@ -34,8 +37,8 @@ fn planted(mut call: Call, number: u8, at: usize) -> Call {
         11 => call.element_indices.push(0),
         12 => call.material_ids.push(0),
         13 => call.pairs = Pairs::Any([&call.pair_list()[..], &[1.0, 0.0]].concat()),
-        14 => call.element_indices[at] = call.elements.len() as u32,
-        15 => call.material_ids[element] = 2,
+        14 => call.element_indices[at] = call.elements.len(),
+        15 => call.material_ids[element] = call.material_table.len() / 16,
         16 => mirror(&mut call.elements[size * element..][..size]),
         17 => call.nodes.iter_mut().step_by(2).for_each(|r| *r -= 10.0),
         _ => panic!("no operator asks question {number}"),
@@ -174,8 +177,8 @@ pub fn counts_of_pairs(_: &mut Random) -> Vec<Call> {
 
 pub fn element_numbers(_: &mut Random) -> Vec<Call> {
     let mut calls = everywhere(14);
-    calls.extend(changed(4, |call| call.element_indices[2] = COUNT as u32));
-    calls.extend(changed(9, |call| call.element_indices[1] = u32::MAX));
+    calls.extend(changed(4, |call| call.element_indices[2] = COUNT));
+    calls.extend(changed(9, |call| call.element_indices[1] = LARGEST));
     let no_elements = Mesh { family: 4, nodes: vec![[1.0, 0.0]; 4], elements: Vec::new() };
     calls.extend(each_operator(&no_elements, &[(0, [0.0, 0.0])]));
     calls
@@ -183,7 +186,7 @@ pub fn element_numbers(_: &mut Random) -> Vec<Call> {
 
 pub fn material_numbers(_: &mut Random) -> Vec<Call> {
     let mut calls = everywhere(15);
-    calls.push(changed_one(Operator::Stress, 4, |call| call.material_ids[1] = u32::MAX));
+    calls.push(changed_one(Operator::Stress, 4, |call| call.material_ids[1] = LARGEST));
     calls.push(changed_one(Operator::Stress, 9, |call| call.material_table.clear()));
     // The number is that of the point's element, not of the point.
     calls.push(changed_one(Operator::Stress, 4, |call| {

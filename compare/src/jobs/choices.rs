@@ -53,7 +53,7 @@ fn around_a_hole(random: &mut Random, family: u8, limit: u16) -> Vec<u8> {
 // ---- near ties
 
 /// Two distances from the origin whose squares differ and whose roots are equal; the nearer one is second.
-fn near_pair(random: &mut Random) -> [Pair; 2] {
+pub fn near_pair(random: &mut Random) -> [Pair; 2] {
     loop {
         let long = random.between(1.0, 1.4);
         let short = two_to(-24) * random.between(1.0, 2.0);

@@ -18,6 +18,11 @@ impl Random {
         Random(name.bytes().fold(0xcbf2_9ce4_8422_2325, mix))
     }
 
+    /// Another sequence of a kind; seed 0 is the stored list's.
+    pub fn seeded(name: &str, seed: u64) -> Random {
+        Random(Random::of_kind(name).0.wrapping_add(seed.wrapping_mul(0xd134_2543_de82_ef95)))
+    }
+
     pub fn bits(&mut self) -> u64 {
         self.0 = self.0.wrapping_add(0x9e37_79b9_7f4a_7c15);
         let z = (self.0 ^ (self.0 >> 30)).wrapping_mul(0xbf58_476d_1ce4_e5b9);

@@ -6,7 +6,7 @@ use super::random::Random;
 use super::shapes::{moved_element, scatter};
 
 /// The records of a sound little job: QF, the nodes, one element, two points.
-fn sound(family: u8) -> Vec<Vec<u8>> {
+pub fn sound(family: u8) -> Vec<Vec<u8>> {
     let mut records = vec![family_record(family, 1)];
     records.extend(Mesh::of(family, &[SQUARE]).records());
     records.extend([[3.0, 1.0], [0.5, 0.25]].map(point_record));
@@ -14,26 +14,26 @@ fn sound(family: u8) -> Vec<Vec<u8>> {
 }
 
 /// The first `count` records of a sound job, and then some bytes.
-fn after(family: u8, count: usize, tail: &[u8]) -> Vec<u8> {
+pub fn after(family: u8, count: usize, tail: &[u8]) -> Vec<u8> {
     [&sound(family)[..count].concat(), tail].concat()
 }
 
 /// A sound job with one record more, at a place of its own.
-fn with_record(family: u8, place: usize, record: Vec<u8>) -> Vec<u8> {
+pub fn with_record(family: u8, place: usize, record: Vec<u8>) -> Vec<u8> {
     let mut records = sound(family);
     records.insert(place, record);
     records.concat()
 }
 
 /// A sound job with one record changed.
-fn with_changed(family: u8, place: usize, record: Vec<u8>) -> Vec<u8> {
+pub fn with_changed(family: u8, place: usize, record: Vec<u8>) -> Vec<u8> {
     let mut records = sound(family);
     records[place] = record;
     records.concat()
 }
 
 /// What a record begins with when it is cut after some bytes of its body.
-fn cut(record: &[u8], body: usize) -> Vec<u8> {
+pub fn cut(record: &[u8], body: usize) -> Vec<u8> {
     record[..2 + body].to_vec()
 }
 
@@ -119,7 +119,7 @@ pub fn families(_: &mut Random) -> Vec<Vec<u8>> {
 }
 
 /// The 513th node, the 257th element, the 257th point; each with nothing after it.
-fn past_the_counts(random: &mut Random, family: u8) -> [Vec<u8>; 3] {
+pub fn past_the_counts(random: &mut Random, family: u8) -> [Vec<u8>; 3] {
     let mesh = full_mesh(random, family);
     let join = |records: Vec<Vec<u8>>| [family_record(family, 1), records.concat()].concat();
     let node = |&node: &Pair| node_record(node);

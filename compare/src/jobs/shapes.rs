@@ -34,22 +34,28 @@ fn by_limit(random: &mut Random, make: impl Fn(&mut Random, u8) -> Mesh) -> Vec<
 }
 
 pub fn regular(random: &mut Random) -> Vec<Vec<u8>> {
-    by_limit(random, |random, family| {
-        let (columns, rows) = (1 + random.below(4) as u32, 1 + random.below(3) as u32);
-        let [width, height] = [0; 2].map(|_| random.pick(&[0.5, 0.75, 1.0, 1.5, 2.0]));
-        let origin = few_digits(random.pair(-1.0, 1.0));
-        Mesh::grid(family, columns, rows, |[x, y]| [origin[0] + width * x, origin[1] + height * y])
-    })
+    by_limit(random, regular_mesh)
+}
+
+/// Rectangles of one size, with few digits.
+pub fn regular_mesh(random: &mut Random, family: u8) -> Mesh {
+    let (columns, rows) = (1 + random.below(4) as u32, 1 + random.below(3) as u32);
+    let [width, height] = [0; 2].map(|_| random.pick(&[0.5, 0.75, 1.0, 1.5, 2.0]));
+    let origin = few_digits(random.pair(-1.0, 1.0));
+    Mesh::grid(family, columns, rows, |[x, y]| [origin[0] + width * x, origin[1] + height * y])
 }
 
 pub fn skewed(random: &mut Random) -> Vec<Vec<u8>> {
-    by_limit(random, |random, family| {
-        let (columns, rows) = (1 + random.below(3) as u32, 1 + random.below(3) as u32);
-        let shear = random.pair(-0.6, 0.6);
-        Mesh::grid(family, columns, rows, |[x, y]| {
-            let noise = random.pair(-0.35, 0.35);
-            [x + shear[0] * y + noise[0], y + shear[1] * x + noise[1]]
-        })
+    by_limit(random, skewed_mesh)
+}
+
+/// A grid that is sheared and whose nodes are moved.
+pub fn skewed_mesh(random: &mut Random, family: u8) -> Mesh {
+    let (columns, rows) = (1 + random.below(3) as u32, 1 + random.below(3) as u32);
+    let shear = random.pair(-0.6, 0.6);
+    Mesh::grid(family, columns, rows, |[x, y]| {
+        let noise = random.pair(-0.35, 0.35);
+        [x + shear[0] * y + noise[0], y + shear[1] * x + noise[1]]
     })
 }
 
@@ -105,7 +111,7 @@ pub fn degenerate(random: &mut Random) -> Vec<Vec<u8>> {
     jobs
 }
 
-fn degenerate_meshes(family: u8) -> Vec<Mesh> {
+pub fn degenerate_meshes(family: u8) -> Vec<Mesh> {
     let repeated = REPEATS.map(|(local, as_local)| repeat_number(family, local, as_local));
     let shaped = DEGENERATE.map(|corners| Mesh::of(family, &[corners]));
     let mut meshes = [repeated.to_vec(), shaped.to_vec()].concat();
@@ -144,7 +150,7 @@ const DEGENERATE: [[Pair; 4]; 9] = [
 ];
 
 /// The mesh with a sound element, which stands first or last.
-fn beside_sound(mesh: &Mesh, random: &mut Random) -> Mesh {
+pub fn beside_sound(mesh: &Mesh, random: &mut Random) -> Mesh {
     let mut both = mesh.clone();
     both.add(&local_nodes(mesh.family, rectangle([1.0, 1.0], 2.0, 1.5)));
     if random.below(2) == 0 {

@@ -40,7 +40,7 @@ pub fn material_at(call: &Call, turn: Turn, point: usize, element: usize) -> Mat
 }
 
 fn material_number(call: &Call, element: usize) -> usize {
-    call.material_ids.get(element).copied().unwrap_or(0) as usize
+    call.material_ids.get(element).copied().unwrap_or(0)
 }
 
 fn pair_at(call: &Call, turn: Turn, point: usize, element: usize) -> Option<[f64; 2]> {

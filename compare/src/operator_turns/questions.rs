@@ -51,7 +51,7 @@ fn place_of(call: &Call, turn: Turn, no: &Question) -> usize {
     match turn {
         Turn::ElementAtPlaceZero if no.number == 8 => 0,
         Turn::PointAtPlaceZero if no.number >= 14 => 0,
-        Turn::ElementForPoint if no.number >= 14 => call.element_indices[no.place] as usize,
+        Turn::ElementForPoint if no.number >= 14 => call.element_indices[no.place],
         _ => no.place,
     }
 }
@@ -112,8 +112,8 @@ fn room(call: &Call, turn: Turn) -> bool {
 /// answer.
 fn point_questions(call: &Call, turn: Turn, point: usize) -> [Question; 4] {
     let of_point = |number, holds| Question { number, place: point, holds };
-    let element = call.element_indices[point] as usize;
-    let material = call.material_ids.get(element).copied().unwrap_or(0) as usize;
+    let element = call.element_indices[point];
+    let material = call.material_ids.get(element).copied().unwrap_or(0);
     let place = Place::of(call, turn, point);
     let asks_radius = call.formulation == Formulation::Axisymmetric || turn == Turn::RadiusAskedInPlaneStrain;
     [

@@ -37,9 +37,8 @@ impl Call {
     /// Whether every number that a row needs is there.
     pub fn readable(&self) -> bool {
         let numbers = || self.elements.iter().map(|&number| number as usize);
-        let points = || self.element_indices.iter().map(|&number| number as usize);
         numbers().all(|node| node < self.node_count())
-            && points().all(|element| element < self.element_count())
+            && self.element_indices.iter().all(|&element| element < self.element_count())
             && self.reference_points.len() == 2 * self.points()
             && (self.operator != Operator::Stress || self.material_ids.len() == self.element_count())
     }
@@ -116,7 +115,7 @@ impl Turn {
 }
 
 fn element_of(call: &Call, turn: Turn, point: usize) -> usize {
-    if turn == Turn::FirstElementForAll { 0 } else { call.element_indices[point] as usize }
+    if turn == Turn::FirstElementForAll { 0 } else { call.element_indices[point] }
 }
 
 /// A number past the list's end reads as node 0, so that every question has an answer.

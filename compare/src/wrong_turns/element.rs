@@ -2,6 +2,7 @@
 
 use super::{Choice, Turn};
 use crate::document01::Query;
+use std::ops::Range;
 
 /// The seeds in order: centre, corners, middles of faces.
 const SEEDS: [[f64; 2]; 9] = [
@@ -98,9 +99,17 @@ impl Element {
 
     /// The point and the Jacobian at a reference.
     pub fn map(&self, reference: [f64; 2]) -> ([f64; 2], [[f64; 2]; 2]) {
+        if self.turn == Turn::SumByPairs {
+            return self.map_by_pairs(reference);
+        }
+        self.map_over(0..self.coordinates.len(), reference)
+    }
+
+    /// The sums over some places, in their order.
+    fn map_over(&self, places: Range<usize>, reference: [f64; 2]) -> ([f64; 2], [[f64; 2]; 2]) {
         let mut point = [0.0; 2];
         let mut jacobian = [[0.0; 2]; 2];
-        for node in (0..self.coordinates.len()).map(|at| self.term(at)) {
+        for node in places.map(|at| self.term(at)) {
             let (value, slopes) = self.shape(node, reference);
             for axis in 0..2 {
                 let x = self.coordinates[node][axis];
@@ -113,6 +122,20 @@ impl Element {
         (point, jacobian)
     }
 
+    /// Nodes 0 and 1, nodes 2 and 3, and the rest summed apart, then added.
+    fn map_by_pairs(&self, reference: [f64; 2]) -> ([f64; 2], [[f64; 2]; 2]) {
+        let parts = [0..2, 2..4, 4..self.coordinates.len()].map(|places| self.map_over(places, reference));
+        let mut sum = ([0.0; 2], [[0.0; 2]; 2]);
+        for (point, jacobian) in parts {
+            for axis in 0..2 {
+                sum.0[axis] += point[axis];
+                sum.1[axis][0] += jacobian[axis][0];
+                sum.1[axis][1] += jacobian[axis][1];
+            }
+        }
+        sum
+    }
+
     fn project<At>(&self, at: At, reference: [f64; 2], target: [f64; 2]) -> Projection<At> {
         Projection { at, squared: self.turn.squared_distance(self.map(reference).0, target) }
     }
@@ -120,15 +143,24 @@ impl Element {
     // ---- the element search
 
     pub fn search(&self, target: [f64; 2]) -> Projection<[f64; 2]> {
-        let stepped = SEEDS.map(|seed| {
-            let end = self.walk(seed, self.element_steps(seed), |at| self.element_step(at, target));
-            self.project(end, end, target)
+        let stepped = self.seeds().map(|seed| {
+            let project = |at| self.project(at, at, target);
+            let step = |at| self.element_step(at, target);
+            self.walk(seed, self.element_steps(seed), step, project, Turn::BestOnTheWay)
         });
         let first = match self.turn {
             Turn::FirstBestIsStepped => stepped[0],
             _ => self.project(SEEDS[0], SEEDS[0], target),
         };
         self.best(Choice::Seeds, first, &stepped)
+    }
+
+    fn seeds(&self) -> [[f64; 2]; 9] {
+        let mut seeds = SEEDS;
+        if self.turn == Turn::MidsidesBeforeCorners {
+            seeds[1..].rotate_left(4);
+        }
+        seeds
     }
 
     fn element_steps(&self, seed: [f64; 2]) -> u16 {
@@ -149,17 +181,30 @@ impl Element {
         all[self.turn.first_least(choice, all.iter().map(|found| found.squared))]
     }
 
-    /// Steps from a seed until one stays or is the last, or until they are used up.
-    fn walk<At: Copy>(&self, seed: At, steps: u16, step: impl Fn(At) -> Step<At>) -> At {
-        let mut at = seed;
+    /// Steps from a seed until one stays or is the last, or until they are used up. The turn `on_the_way` keeps
+    /// the nearest of all places that it came by.
+    fn walk<At: Copy>(
+        &self,
+        seed: At,
+        steps: u16,
+        step: impl Fn(At) -> Step<At>,
+        project: impl Fn(At) -> Projection<At>,
+        on_the_way: Turn,
+    ) -> Projection<At> {
+        let mut places = vec![seed];
         for _ in 0..steps {
-            match step(at) {
-                Step::Stay => return at,
-                Step::Last(next) => return next,
-                Step::More(next) => at = next,
+            match step(places[places.len() - 1]) {
+                Step::Stay => break,
+                Step::Last(next) => {
+                    places.push(next);
+                    break;
+                }
+                Step::More(next) => places.push(next),
             }
         }
-        at
+        let first = if self.turn == on_the_way { 0 } else { places.len() - 1 };
+        let met: Vec<Projection<At>> = places[first..].iter().map(|&at| project(at)).collect();
+        met[self.turn.first_least(Choice::Seeds, met.iter().map(|found| found.squared))]
     }
 
     fn element_step(&self, at: [f64; 2], target: [f64; 2]) -> Step<[f64; 2]> {
@@ -167,8 +212,10 @@ impl Element {
         let Some(update) = self.update(residual(point, target), jacobian) else {
             return Step::Stay;
         };
-        let next = [0, 1].map(|axis| self.turn.clamp(at[axis] - update[axis]));
-        let squared = self.turn.squared_distance(at, next);
+        let unclamped = [0, 1].map(|axis| at[axis] - update[axis]);
+        let next = unclamped.map(|coordinate| self.turn.clamp(coordinate));
+        let measured = if self.turn == Turn::ShortBeforeClamp { unclamped } else { next };
+        let squared = self.turn.squared_distance(at, measured);
         match self.turn {
             Turn::ShortStepGoesOn => Step::More(next),
             Turn::ShortStepNotStored if squared <= SHORT_STEP_SQUARED => Step::Stay,
@@ -185,7 +232,13 @@ impl Element {
         let dot = |fusing, a: [f64; 2], b: [f64; 2]| self.turn.two_products(fusing, a[0], b[0], a[1], b[1]);
         let gradient = columns.map(|column| dot(GRADIENT, column, residual));
         let hessian = columns.map(|row| columns.map(|column| dot(HESSIAN, row, column)));
-        let determinant = self.cross(DETERMINANT, hessian[0], hessian[1]);
+        let determinant = match self.turn {
+            Turn::DeterminantOfJacobian => {
+                let root = self.cross(DETERMINANT, jacobian[0], jacobian[1]);
+                root * root
+            }
+            _ => self.cross(DETERMINANT, hessian[0], hessian[1]),
+        };
         if self.is_small(determinant) {
             return None;
         }
@@ -219,9 +272,13 @@ impl Element {
 
     pub fn face_search(&self, face: usize, target: [f64; 2]) -> Projection<f64> {
         let steps = if self.turn == Turn::FaceStepsForgotten { 0 } else { self.limit };
-        let project = |s| self.project(s, on_face(face, s), target);
-        let stepped =
-            [-1.0, 0.0, 1.0].map(|seed| project(self.walk(seed, steps, |s| self.face_step(face, s, target))));
+        let project = |s| self.project(s, self.on_face(face, s), target);
+        let step = |s| self.face_step(face, s, target);
+        let seeds = match self.turn {
+            Turn::FaceMiddleSeedFirst => [0.0, -1.0, 1.0],
+            _ => [-1.0, 0.0, 1.0],
+        };
+        let stepped = seeds.map(|seed| self.walk(seed, steps, step, project, Turn::FaceBestOnTheWay));
         let first = match self.turn {
             Turn::FaceFirstBestIsSeed => stepped[0],
             _ => project(0.0),
@@ -230,8 +287,8 @@ impl Element {
     }
 
     fn face_step(&self, face: usize, s: f64, target: [f64; 2]) -> Step<f64> {
-        let (point, jacobian) = self.map(on_face(face, s));
-        let direction = FACE_DIRECTION[face];
+        let (point, jacobian) = self.map(self.on_face(face, s));
+        let direction = self.face_direction(face);
         let tangent = jacobian.map(|row| row[0] * direction[0] + row[1] * direction[1]);
         let residual = residual(point, target);
         let square = self.turn.two_products(TANGENT_SQUARE, tangent[0], tangent[0], tangent[1], tangent[1]);
@@ -240,7 +297,11 @@ impl Element {
         }
         let gradient =
             self.turn.two_products(FACE_GRADIENT, tangent[0], residual[0], tangent[1], residual[1]);
-        let next = self.turn.clamp(s - gradient / square);
+        let update = match self.turn {
+            Turn::ReciprocalTangentSquare => gradient * (1.0 / square),
+            _ => gradient / square,
+        };
+        let next = self.turn.clamp(s - update);
         let step = (next - s).abs();
         match self.turn {
             Turn::FaceShortStepGoesOn => Step::More(next),
@@ -261,15 +322,19 @@ impl Element {
             _ => tangent_square <= FACE_BOUND,
         }
     }
+
+    fn on_face(&self, face: usize, s: f64) -> [f64; 2] {
+        let back = if self.turn == Turn::FacesNotTurned { s } else { -s };
+        [[s, -1.0], [1.0, s], [back, 1.0], [-1.0, back]][face]
+    }
+
+    /// How the reference moves with s on each face: counter-clockwise from the bottom.
+    fn face_direction(&self, face: usize) -> [f64; 2] {
+        let back = if self.turn == Turn::FacesNotTurned { 1.0 } else { -1.0 };
+        [[1.0, 0.0], [0.0, 1.0], [back, 0.0], [0.0, back]][face]
+    }
 }
 
 fn residual(point: [f64; 2], target: [f64; 2]) -> [f64; 2] {
     [point[0] - target[0], point[1] - target[1]]
-}
-
-/// How the reference moves with s on each face: counter-clockwise from the bottom.
-const FACE_DIRECTION: [[f64; 2]; 4] = [[1.0, 0.0], [0.0, 1.0], [-1.0, 0.0], [0.0, -1.0]];
-
-fn on_face(face: usize, s: f64) -> [f64; 2] {
-    [[s, -1.0], [1.0, s], [-s, 1.0], [-1.0, -s]][face]
 }
