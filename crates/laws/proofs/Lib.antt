@@ -1,4 +1,3 @@
--- The long theorems over the definition, and an instance of demand 3.
+-- The long theorems over the definition.
 pub mod Exact
 pub mod ExactCases
-pub mod Instance

@@ -1,1 +1,1 @@
-// Long theorems and computed instances over the definition. There is no function here.
+// Long theorems over the definition. There is no function here.

@@ -1,6 +1,7 @@
--- Rows that hold the definition and take longer: the paper's worked table, values of the published Rust, steps at each bound, a whole choice, the operators' questions.
+-- Rows that hold the definition and take longer: the paper's worked table, values of the published Rust, steps at each bound, a whole choice, the operators' questions, an instance of demand 3.
 pub mod Worked
 pub mod Published
 pub mod Steps
 pub mod Choice
 pub mod Operators
+pub mod Instance
