@@ -1,4 +1,3 @@
 -- Laws that the proofs share, and that the crates above may cite.
-pub mod Writing
-pub mod Products
+pub mod Sixteen
 pub mod Turning

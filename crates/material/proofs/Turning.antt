@@ -5,8 +5,9 @@ use mathlib.Core.List.{List}
 use lib.Ieee.{Float, eq}
 use Rattle.definition.specs.Binary64.{plus0, one}
 use Rattle.definition.specs.Rows.{productOf, strainToLocal, stressToGlobal, rotated}
-use Rattle.material.specs.Products.{sixteen}
-use Rattle.material.proofs.Products.{sixteen-whole, product-length, product-of-sixteen}
+use Rattle.products.proofs.Products.{product-length}
+use Rattle.material.specs.Sixteen.{sixteen}
+use Rattle.material.proofs.Sixteen.{sixteen-whole, product-of-sixteen}
 
 module _ (material : List Float) (c s : Float) where
   pub copied : eq c one && eq s plus0 ≡ true → sixteen material ≡ sixteen (rotated material c s)

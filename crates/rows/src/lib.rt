@@ -14,7 +14,7 @@ ghost use Rattle.definition.specs.Mesh.{gathered};
 ghost use Rattle.definition.specs.Query.{values};
 ghost use Rattle.definition.specs.Rows.{basisAt, hoop, strainEntry};
 ghost use Rattle.mapping.specs.Element.{element};
-ghost use Rattle.material.specs.Products.{overFrom};
+ghost use Rattle.products.specs.Products.{overFrom};
 ghost use Rattle.rows.specs.Values.{listed, entryBy};
 
 // ---- what the rows are made of, node after node

@@ -52,7 +52,7 @@ fn put_stress_at(
         formulation,
         &mut strain,
     );
-    material::put_stress_values(&oriented, &strain, family, out);
+    products::put_stress_values(&oriented, &strain, family, out);
 }
 
 // The triplets of stress, from the lists' first place on; their number.

@@ -8,8 +8,8 @@ use Rattle.definition.specs.Lists.{each, over}
 use Rattle.definition.specs.Binary64.{plus0}
 use Rattle.definition.specs.Query.{values}
 use Rattle.definition.proofs.Lists.{values-length, over-value}
-use Rattle.material.specs.Products.{sixteen}
-use Rattle.material.proofs.Writing.{over-whole}
+use Rattle.products.proofs.Writing.{over-whole}
+use Rattle.material.specs.Sixteen.{sixteen}
 use Rattle.material.proofs.copy_material.Statement.{statement}
 use Rattle.material.proofs.copy_material.Tie as tie
 

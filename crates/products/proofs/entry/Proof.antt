@@ -1,8 +1,8 @@
--- `material::entry` meets its contract: it reads column t of the matrix, a number of each row. Assumes nothing.
+-- `products::entry` meets its contract: it reads column t of the matrix, a number of each row. Assumes nothing.
 use native.Mathlib.Omega.{arith}
-use Rattle.material.specs.Products.{entryOf}
-use Rattle.material.proofs.entry.Statement.{statement}
-use Rattle.material.proofs.entry.Tie as tie
+use Rattle.products.specs.Products.{entryOf}
+use Rattle.products.proofs.entry.Statement.{statement}
+use Rattle.products.proofs.entry.Tie as tie
 
 returns : tie.Need-returns
 unfolding entryOf

@@ -1,13 +1,13 @@
--- `material::product` meets its contract: with four columns the four rows written are the definition's product, and they fill the array. Assumes nothing.
+-- `products::product` meets its contract: with four columns the four rows written are the definition's product, and they fill the array. Assumes nothing.
 use mathlib.Core.Path.{_∙_}
 use borrow.Author.Needs.{needs}
 use Rattle.definition.specs.Query.{values}
 use Rattle.definition.proofs.Lists.{values-length}
-use Rattle.material.specs.Products.{entryOf, timesOf}
-use Rattle.material.proofs.Writing.{four-parts, over-whole}
-use Rattle.material.proofs.Products.{times-length, product-is-times}
-use Rattle.material.proofs.product.Statement.{statement}
-use Rattle.material.proofs.product.Tie as tie
+use Rattle.products.specs.Products.{entryOf, timesOf}
+use Rattle.products.proofs.Writing.{four-parts, over-whole}
+use Rattle.products.proofs.Products.{times-length, product-is-times}
+use Rattle.products.proofs.product.Statement.{statement}
+use Rattle.products.proofs.product.Tie as tie
 
 returns : tie.Need-returns
 unfolding timesOf

@@ -1,4 +1,4 @@
--- What the calls hand back or write: a material as sixteen numbers, and a material times four rows of strains.
+-- What the calls write: a list from a place on, and the product of a matrix of sixteen numbers and one of four rows.
 use mathlib.Core.List.{List, _++_}
 use Prim.Native.Nat.{ℕ, _+_, _*_}
 use lib.ListN.{getD, take}
@@ -6,10 +6,6 @@ use lib.Ieee.{Float, nan}
 use Rattle.definition.specs.Lists.{each, over}
 use Rattle.definition.specs.Query.{values}
 use Rattle.definition.specs.Rows.{fourTerms}
-
--- the first sixteen numbers of a list, with NaN for those that it does not have
-unfoldable pub sixteen : List Float → List Float
-sixteen l = values (λ i. getD l i nan) 16
 
 -- a lent list after a call that wrote the new values from a place on
 unfoldable pub overFrom : {A : Type 0} → ℕ → List A → List A → List A

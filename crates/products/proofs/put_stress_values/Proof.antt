@@ -1,11 +1,11 @@
--- `material::put_stress_values` meets its contract: four rows are written, each where the last one ended, with two columns a node. Assumes nothing.
+-- `products::put_stress_values` meets its contract: four rows are written, each where the last one ended, with two columns a node. Assumes nothing.
 use borrow.Author.Needs.{needs}
 use Rattle.definition.specs.Query.{values}
 use Rattle.definition.proofs.Lists.{values-length}
-use Rattle.material.specs.Products.{entryOf, timesOf}
-use Rattle.material.proofs.Writing.{four-parts}
-use Rattle.material.proofs.put_stress_values.Statement.{statement}
-use Rattle.material.proofs.put_stress_values.Tie as tie
+use Rattle.products.specs.Products.{entryOf, timesOf}
+use Rattle.products.proofs.Writing.{four-parts}
+use Rattle.products.proofs.put_stress_values.Statement.{statement}
+use Rattle.products.proofs.put_stress_values.Tie as tie
 
 returns : tie.Need-returns
 unfolding timesOf

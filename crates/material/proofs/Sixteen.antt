@@ -1,5 +1,5 @@
--- Sixteen numbers of a list, and products of matrices that have sixteen numbers. Assumes nothing.
-use mathlib.Core.Path.{_≡_, refl, sym, _∙_}
+-- Sixteen numbers of a list, and that they are all that a product reads of it. Assumes nothing.
+use mathlib.Core.Path.{_≡_, sym, _∙_}
 use mathlib.Core.List.{List}
 use Prim.Native.Nat.{ℕ, _+_, _*_, _<_}
 use native.Mathlib.Omega.{arith}
@@ -7,10 +7,10 @@ use lib.ListN.{length, getD}
 use lib.Seq.{ext-getD}
 use lib.Ieee.{Float, nan}
 use Rattle.definition.specs.Rows.{fourTerms, productOf}
-use Rattle.definition.proofs.Lists.{each-same, each-length, values-length, values-at}
-use Rattle.material.specs.Products.{sixteen, entryOf, timesOf}
-
--- ---- sixteen numbers
+use Rattle.definition.proofs.Lists.{each-same, values-length, values-at}
+use Rattle.products.specs.Products.{entryOf, timesOf}
+use Rattle.products.proofs.Products.{product-is-times}
+use Rattle.material.specs.Sixteen.{sixteen}
 
 pub sixteen-at : (l : List Float) {i : ℕ} → i < 16 → getD (sixteen l) i nan ≡ getD l i nan
 unfolding sixteen
@@ -22,16 +22,6 @@ unfolding sixteen
 sixteen-whole {l} h =
     let size : length (sixteen l) ≡ 16 = values-length (λ i. getD l i nan) 16 in
     ext-getD nan (sixteen l) l (size ∙ sym h) (λ i m. sixteen-at l (rw size at m))
-
--- ---- products
-
-pub times-length : (a b : List Float) (n : ℕ) → length (timesOf a b n) ≡ n * 4
-unfolding timesOf
-times-length a b n = each-length _ (λ i l. values-length (entryOf a b n i) n)
-
-pub product-is-times : (a b : List Float) → timesOf a b 4 ≡ productOf a b
-unfolding timesOf entryOf productOf
-product-is-times a b = refl
 
 -- a product reads sixteen numbers of its first matrix and no more
 four-terms-of-sixteen : (a : List Float) {i : ℕ} (b0 b1 b2 b3 : Float) → i < 4 → fourTerms (sixteen a) i b0 b1 b2 b3 ≡ fourTerms a i b0 b1 b2 b3
@@ -45,6 +35,3 @@ times-of-sixteen a b n = each-same (λ i h. each-same (λ t l. rw (four-terms-of
 
 pub product-of-sixteen : (a b : List Float) → productOf (sixteen a) b ≡ productOf a b
 product-of-sixteen a b = sym (product-is-times (sixteen a) b) ∙ times-of-sixteen a b 4 ∙ product-is-times a b
-
-pub product-length : (a b : List Float) → length (productOf a b) ≡ 16
-product-length a b = rw (← product-is-times) (times-length a b 4)

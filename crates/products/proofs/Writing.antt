@@ -9,7 +9,7 @@ use lib.Seq.{length-take-le, drop-length, drop-append-add, drop-drop}
 use Rattle.definition.specs.Lists.{each, over}
 use Rattle.definition.specs.Query.{values}
 use Rattle.definition.proofs.Lists.{each-more, each-length, values-length, pairs-length, over-take, over-next}
-use Rattle.material.specs.Products.{overFrom}
+use Rattle.products.specs.Products.{overFrom}
 
 -- nothing written
 pub over-from-none : {A : Type 0} (at : ℕ) (old : List A) → at ≤ length old → overFrom at [] old ≡ old

@@ -1,10 +1,10 @@
--- `material::four_terms` meets its contract: the code writes the sum out as the definition does. Assumes nothing.
+-- `products::four_terms` meets its contract: the code writes the sum out as the definition does. Assumes nothing.
 use mathlib.Core.Path.{refl}
 use native.Mathlib.Omega.{arith}
 use lib.Ieee.{ofBits}
 use Rattle.definition.specs.Rows.{fourTerms}
-use Rattle.material.proofs.four_terms.Statement.{statement}
-use Rattle.material.proofs.four_terms.Tie as tie
+use Rattle.products.proofs.four_terms.Statement.{statement}
+use Rattle.products.proofs.four_terms.Tie as tie
 
 returns : tie.Need-returns
 unfolding ofBits fourTerms

@@ -1,15 +1,15 @@
--- `material::put_row` meets its contract: after t turns the first t entries of the row are written from its start on. Assumes nothing.
+-- `products::put_row` meets its contract: after t turns the first t entries of the row are written from its start on. Assumes nothing.
 use mathlib.Core.Path.{_≡_, refl, sym}
 use Prim.Native.Nat.{_+_, _-_, _≤_}
 use native.Mathlib.Omega.{arith}
 use lib.ListN.{length, length-set}
 use Rattle.definition.specs.Lists.{each}
 use Rattle.definition.specs.Query.{values}
-use Rattle.material.specs.Products.{overFrom, entryOf}
+use Rattle.products.specs.Products.{overFrom, entryOf}
 use Rattle.lists.proofs.Parts.{part-fits}
-use Rattle.material.proofs.Writing.{over-from-none, over-from-value}
-use Rattle.material.proofs.put_row.Statement.{statement}
-use Rattle.material.proofs.put_row.Tie as tie
+use Rattle.products.proofs.Writing.{over-from-none, over-from-value}
+use Rattle.products.proofs.put_row.Statement.{statement}
+use Rattle.products.proofs.put_row.Tie as tie
 
 abbrev Inv-loop : tie.InvT-loop
 Inv-loop a b columns i out₀ start t₀ out t =

@@ -1,0 +1,3 @@
+-- Laws that the proofs share, and that the crates above may cite.
+pub mod Writing
+pub mod Products
