@@ -1,9 +1,7 @@
--- The choice among nodes, elements and faces as the walk makes it: one after the other, and the next one only where it is smaller.
+-- The choice among elements and faces as the walk makes it: one after the other, and the next one only where it is smaller.
 use mathlib.Core.Bool.{cond}
-use mathlib.Core.List.{List, []}
 use Prim.Native.Nat.{ℕ}
-use lib.Ieee.{Float, lt}
-use Rattle.definition.specs.Mesh.{Mesh}
+use lib.Ieee.{lt}
 use Rattle.definition.specs.Root.{rootOf}
 use Rattle.definition.specs.Search.{elementBest, faceBest}
 use Rattle.definition.specs.declared.Point.{Point}
@@ -14,10 +12,6 @@ use Rattle.places.specs.declared.FaceBest.{FaceBest}
 use Rattle.nearest.specs.declared.NearElement.{NearElement}
 use Rattle.nearest.specs.declared.NearFace.{NearFace}
 use Rattle.nearest.specs.declared.Walk.{Walk}
-
--- the nodes of a mesh, which is all that the choice of a node reads
-abbrev pub nodes : List Float → Mesh
-nodes l = record { family = 4; nodes = l; elements = [] }
 
 -- a projection with the root of what a search found, whose square stays beside it
 abbrev pub rootedElement : ℕ → ElementBest → NearElement

@@ -1,12 +1,11 @@
-// The twelve values of one point: the choice among all nodes, elements and faces.
-// It knows the definition, the searches, the root and the mesh; nothing of lent lists.
+// The twelve values of one point: the nearest node, and the choice among all elements and faces.
+// It knows the definition, the nearest node, the searches, the root and the mesh; nothing of lent lists.
 ghost use mathlib.Core.Path.{_≡_};
 ghost use lib.Ieee.{lt};
 ghost use Rattle.definition.specs.Root.{rootOf};
-ghost use Rattle.definition.specs.Mesh.{nodeCount};
-ghost use Rattle.definition.specs.Choice.{pick, nodeSquare, nodeAnswer, pointAnswer};
+ghost use Rattle.definition.specs.Choice.{pointAnswer};
 ghost use Rattle.mapping.specs.Element.{element};
-ghost use Rattle.nearest.specs.Nearest.{nodes, rootedElement, rootedFace, elementNear, faceNear, nearerElement, nearerFace, otherFaces, nearerOf};
+ghost use Rattle.nearest.specs.Nearest.{rootedElement, rootedFace, elementNear, faceNear, nearerElement, nearerFace, otherFaces, nearerOf};
 use definition::ElementProjection;
 use definition::FaceProjection;
 use definition::GatheredElement;
@@ -15,46 +14,6 @@ use definition::Point;
 use definition::PointAnswer;
 use places::ElementBest;
 use places::FaceBest;
-
-// ---- nodes
-
-fn node_square(nodes_rz: &[f64], node_index: usize, target: Point) -> f64
-    ensures { λ r. ⌜ r ≡ nodeSquare (nodes (now («nodes_rz» .entry))) 0 target «node_index» ⌝ }
-{
-    let p = lists::pair_at(nodes_rz, node_index);
-    root::squared_distance(p.x, p.y, target.x, target.y)
-}
-
-// The first node of the least squared distance, 0 where there is none.
-fn nearest_node(nodes_rz: &[f64], target: Point) -> usize
-    ensures { λ r. ⌜ r ≡ pick (nodeSquare (nodes (now («nodes_rz» .entry))) 0 target) (nodeCount (nodes (now («nodes_rz» .entry)))) ⌝ }
-{
-    let count = nodes_rz.len() / 2;
-    let mut best: usize = 0;
-    let mut best_square = node_square(nodes_rz, 0, target);
-    let mut node_index: usize = 0;
-    while node_index < count {
-        let square = node_square(nodes_rz, node_index, target);
-        if square < best_square {
-            best = node_index;
-            best_square = square;
-        }
-        node_index += 1;
-    }
-    best
-}
-
-// The nearest node, by squared distance. Where there is none it is node 0, at NaN.
-pub fn nearest_node_projection(nodes_rz: &[f64], target: Point) -> NodeProjection
-    ensures { λ r. ⌜ (let m = nodes (now («nodes_rz» .entry)) in r ≡ nodeAnswer m 0 target (pick (nodeSquare m 0 target) (nodeCount m))) ⌝ }
-{
-    let node_index = nearest_node(nodes_rz, target);
-    NodeProjection {
-        node_index,
-        point: lists::pair_at(nodes_rz, node_index),
-        distance: root::root(node_square(nodes_rz, node_index, target)),
-    }
-}
 
 // ---- elements and faces
 
@@ -280,7 +239,7 @@ pub fn answer_point(
 ) -> PointAnswer
     ensures { λ r. ⌜ r ≡ pointAnswer (record { family = family; nodes = now («nodes_rz» .entry); elements = now (elements .entry) }) «max_iterations» target ⌝ }
 {
-    let node = nearest_node_projection(nodes_rz, target);
+    let node = nodes::nearest_node_projection(nodes_rz, target);
     let count = elements.len() / elements::nodes_per_element(family);
     let first = mesh::element_coords(family, nodes_rz, elements, 0);
     let mut best = first_nearest(first, target, max_iterations);

@@ -6,10 +6,10 @@ use native.Mathlib.Omega.{arith}
 use borrow.Author.Needs.{needs}
 use Rattle.definition.specs.Choice.{pick, nodeSquare}
 use Rattle.definition.specs.Mesh.{nodeCount}
-use Rattle.nearest.specs.Nearest.{nodes}
-use Rattle.nearest.proofs.Choosing.{goes-on, stays}
-use Rattle.nearest.proofs.nearest_node.Statement.{statement}
-use Rattle.nearest.proofs.nearest_node.Tie as tie
+use Rattle.nodes.specs.Nodes.{nodes}
+use Rattle.nodes.proofs.Choosing.{goes-on, stays}
+use Rattle.nodes.proofs.nearest_node.Statement.{statement}
+use Rattle.nodes.proofs.nearest_node.Tie as tie
 
 abbrev Inv-loop : tie.InvT-loop
 Inv-loop nodes-rz target count best₀ best-square₀ node-index₀ best best-square node-index =

@@ -1,6 +1,6 @@
 use borrow.Author.Needs.{needs}
-use Rattle.nearest.proofs.node_square.Statement.{statement}
-use Rattle.nearest.proofs.node_square.Tie as tie
+use Rattle.nodes.proofs.node_square.Statement.{statement}
+use Rattle.nodes.proofs.node_square.Tie as tie
 
 returns : tie.Need-returns
 returns c = rw (c .before .pair-at .ensures) at (c .squared-distance .ensures)

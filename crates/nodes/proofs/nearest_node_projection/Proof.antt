@@ -1,6 +1,6 @@
 use borrow.Author.Needs.{needs}
-use Rattle.nearest.proofs.nearest_node_projection.Statement.{statement}
-use Rattle.nearest.proofs.nearest_node_projection.Tie as tie
+use Rattle.nodes.proofs.nearest_node_projection.Statement.{statement}
+use Rattle.nodes.proofs.nearest_node_projection.Tie as tie
 
 returns : tie.Need-returns
 returns c = rw (c .root .ensures, c .before .node-square .ensures, c .before .before .pair-at .ensures, c .before .before .before .nearest-node .ensures)
