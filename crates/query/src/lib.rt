@@ -71,7 +71,7 @@ pub fn query_quad_mesh<'a>(
         (lists (now («nearest_node_indices» .exit)) (now («nearest_node_points» .exit)) (now («nearest_node_distances» .exit)) (now («nearest_element_indices» .exit)) (now («nearest_element_reference_points» .exit)) (now («nearest_element_points» .exit)) (now («nearest_element_distances» .exit)) (now («nearest_face_element_indices» .exit)) (now («nearest_face_local_faces» .exit)) (now («nearest_face_reference_coordinates» .exit)) (now («nearest_face_points» .exit)) (now («nearest_face_distances» .exit))) ⌝ }
 {
     let count = points.len() / 2;
-    let room = answers::has_room(
+    let room = room::holds_answers(
         count,
         nearest_node_indices.len(),
         nearest_node_points.len(),

@@ -2,21 +2,19 @@
 use mathlib.Core.Path.{_≡_, refl, ap, _∙_}
 use mathlib.Core.Bool.{true, false, cond, _&&_}
 use mathlib.Core.List.{List, [], _∷_, _++_, map, map-append, append-nil}
-use Prim.Native.Nat.{ℕ, _+_, _*_, _/_, _^_, _≤_, _<_}
+use Prim.Native.Nat.{ℕ, _+_, _*_, _^_, _≤_, _<_}
 use native.Mathlib.Nat.{one-mul, add-zero, zero-add, mul-le-mul-right}
-use native.Mathlib.Decide.{decLe}
 use native.Mathlib.Omega.{arith}
-use lib.Dec.{leb, ltb}
+use lib.Dec.{ltb}
 use lib.ListN.{length, getD, set, length-append, length-map, length-set}
 use lib.Seq.{append-snoc}
-use borrow.Author.Tests.{lt-ltb, le-leb, lt-leb}
+use borrow.Author.Tests.{lt-ltb}
 use lib.Ieee.{Float, nan}
 use Rattle.definition.specs.Lists.{each, over}
 use Rattle.definition.specs.Elements.{nodesOf}
 use Rattle.definition.specs.Operators.{TripletLists, tripletsOver}
 use Rattle.definition.specs.Rows.{Triplet, kept, pointTriplets}
 use Rattle.definition.proofs.Lists.{each-more, over-length, over-next}
-use Rattle.lists.proofs.Parts.{part-begins, part-past}
 use Rattle.triplets.specs.Strip.{Strip, strip, stored, written}
 
 written-append : (s : Strip) (a b : List Triplet) → written (written s a) b ≡ written s (a ++ b)
@@ -92,14 +90,3 @@ module _ (l : TripletLists) where
   pub written-over : (ts : List Triplet) → Room l (length ts) → written (record { lists = l; at = 0 }) ts ≡ after l ts
   unfolding over tripletsOver
   written-over ts h = written-after [] ts (omega (arith, h .0), omega (arith, h .1), omega (arith, h .2))
-
--- ---- room by division
-
-pub room-divides : (k n len : ℕ) → 0 < k → leb n (len / k) ≡ leb (k * n) len
-room-divides k n len some =
-    elim (decLe n (len / k)) [
-      | yes h ↦ rw (le-leb n (len / k) h, le-leb (k * n) len (part-begins k n len h))
-      | no h ↦
-          let more : len / k < n = omega arith in
-          rw (lt-leb n (len / k) more, lt-leb (k * n) len (part-past k n len some more))
-    ]

@@ -1,44 +1,13 @@
-// The triplets of one point, put into three lent lists from a place on: `put_point`. It knows the order of triplets and which values are kept; nothing of a mesh or a material.
+// The triplets of one point, put into three lent lists from a place on. It knows the order of triplets and which values are kept; nothing of a mesh or a material.
 // A triplet that has no place in all three lists is left out, so no call asks anything of the place or of the lists' lengths.
 ghost use mathlib.Core.Path.{_≡_};
-ghost use mathlib.Core.Bool.{_&&_};
 ghost use Prim.Native.Nat.{_+_, _*_, _^_, _≤_, _<_};
-ghost use lib.Dec.{leb};
 ghost use lib.ListN.{length, getD};
 ghost use lib.Ieee.{nan};
 ghost use Rattle.definition.specs.Elements.{nodesOf};
 ghost use Rattle.definition.specs.Lists.{each};
 ghost use Rattle.definition.specs.Rows.{kept, pointTriplets};
 ghost use Rattle.triplets.specs.Strip.{strip, written};
-
-// ---- room
-
-// Whether a list of len places has per_point places for each of count points.
-fn enough(count: usize, per_point: usize, len: usize) -> bool
-    ensures { λ r. ⌜ r ≡ leb («per_point» * count) len ⌝ }
-{
-    if per_point == 0 {
-        return true;
-    }
-    count <= len / per_point
-}
-
-// Whether lists of these lengths have per_point places for each of count points.
-pub fn has_room(count: usize, per_point: usize, rows: usize, columns: usize, values: usize) -> bool
-    ensures { λ r. ⌜ r ≡ leb («per_point» * count) rows && leb («per_point» * count) columns && leb («per_point» * count) values ⌝ }
-{
-    if enough(count, per_point, rows) {
-        if enough(count, per_point, columns) {
-            enough(count, per_point, values)
-        } else {
-            false
-        }
-    } else {
-        false
-    }
-}
-
-// ---- triplets
 
 // One triplet, where its value is not 0 of either sign and each list has the place; the place of the next.
 fn put_triplet(

@@ -32,7 +32,7 @@ lent v =
 -- what the questions came to
 answered : (v : tie.After-query-questions) → verdictOutcome (v .query-questions .result) ≡ asked (queryQuestions (asking v) (lent v)) tt
 unfolding queryRoom
-answered v = v .query-questions .ensures (lent v) (v .before .has-room .ensures)
+answered v = v .query-questions .ensures (lent v) (v .before .holds-answers .ensures)
 
 returns : tie.Need-returns
 returns c =

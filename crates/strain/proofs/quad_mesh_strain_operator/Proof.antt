@@ -32,7 +32,7 @@ lent v =
 -- what the questions came to
 answered : (v : tie.After-strain-questions) → verdictOutcome (v .strain-questions .result) ≡ asked (strainQuestions (asking v) (lent v)) tt
 unfolding tripletRoom
-answered v = v .strain-questions .ensures (lent v) (rw (v .before .before .nodes-per-element .ensures .0) at (v .before .has-room .ensures))
+answered v = v .strain-questions .ensures (lent v) (rw (v .before .before .nodes-per-element .ensures .0) at (v .before .holds-triplets .ensures))
 
 returns : tie.Need-returns
 unfolding strain operatorOf

@@ -32,7 +32,7 @@ lent v =
 -- what the questions came to
 answered : (v : tie.After-stress-questions) → verdictOutcome (v .stress-questions .result) ≡ asked (stressQuestions (asking v) (lent v)) tt
 unfolding tripletRoom
-answered v = v .stress-questions .ensures (lent v) (rw (v .before .before .nodes-per-element .ensures .0) at (v .before .has-room .ensures))
+answered v = v .stress-questions .ensures (lent v) (rw (v .before .before .nodes-per-element .ensures .0) at (v .before .holds-triplets .ensures))
 
 returns : tie.Need-returns
 unfolding stress operatorOf

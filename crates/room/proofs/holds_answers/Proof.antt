@@ -1,6 +1,6 @@
--- `has_room` meets its contract: each call adds one list. Assumes nothing.
-use Rattle.answers.proofs.has_room.Statement.{statement}
-use Rattle.answers.proofs.has_room.Tie as tie
+-- `holds_answers` meets its contract: each call adds one list. Assumes nothing.
+use Rattle.room.proofs.holds_answers.Statement.{statement}
+use Rattle.room.proofs.holds_answers.Tie as tie
 
 returns : tie.Need-returns
 returns c =
@@ -18,8 +18,8 @@ returns c =
       c .before .before .before .before .before .before .before .before .before .before .also-pairs .ensures,
     )
 
-pub has-room-spec : {M : Type 1} → statement M
-has-room-spec =
+pub holds-answers-spec : {M : Type 1} → statement M
+holds-answers-spec =
     tie.close
     (tie.spec
     (λ c κs. tt) (λ c κs. tt) (λ c κs. tt) (λ c κs. tt) (λ c κs. tt) (λ c κs. tt)

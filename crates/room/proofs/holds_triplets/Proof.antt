@@ -1,7 +1,7 @@
--- `has_room` meets its contract: each list is asked in turn. Assumes nothing.
+-- `holds_triplets` meets its contract: each list is asked in turn. Assumes nothing.
 use borrow.Author.Needs.{needs}
-use Rattle.triplets.proofs.has_room.Statement.{statement}
-use Rattle.triplets.proofs.has_room.Tie as tie
+use Rattle.room.proofs.holds_triplets.Statement.{statement}
+use Rattle.room.proofs.holds_triplets.Tie as tie
 
 returns : tie.Need-returns
 returns c =
@@ -15,5 +15,5 @@ returns-2 c = rw (← c .before .before .before .enough .ensures, ← c .before 
 returns-3 : tie.Need-returns-3
 returns-3 c = rw (← c .before .enough .ensures, c .if1 .left)
 
-pub has-room-spec : {M : Type 1} → statement M
-has-room-spec = tie.close (tie.spec (λ c κs. search needs) (λ c κs. search needs) (λ c κs. search needs) returns returns-2 returns-3)
+pub holds-triplets-spec : {M : Type 1} → statement M
+holds-triplets-spec = tie.close (tie.spec (λ c κs. search needs) (λ c κs. search needs) (λ c κs. search needs) returns returns-2 returns-3)

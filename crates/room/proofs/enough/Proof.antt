@@ -3,9 +3,9 @@ use native.Mathlib.Nat.{zero-mul}
 use native.Mathlib.Omega.{arith}
 use borrow.Author.Needs.{needs}
 use borrow.Author.Tests.{le-leb}
-use Rattle.triplets.proofs.Strips.{room-divides}
-use Rattle.triplets.proofs.enough.Statement.{statement}
-use Rattle.triplets.proofs.enough.Tie as tie
+use Rattle.room.proofs.Dividing.{room-divides}
+use Rattle.room.proofs.enough.Statement.{statement}
+use Rattle.room.proofs.enough.Tie as tie
 
 returns : tie.Need-returns
 returns c = let a = c .before .args in rw (c .if1 .taken, zero-mul, le-leb 0 (a .len) (omega arith))

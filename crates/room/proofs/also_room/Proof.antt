@@ -1,6 +1,6 @@
 -- `also_room` meets its contract: by the answer for the others. Assumes nothing.
-use Rattle.answers.proofs.also_room.Statement.{statement}
-use Rattle.answers.proofs.also_room.Tie as tie
+use Rattle.room.proofs.also_room.Statement.{statement}
+use Rattle.room.proofs.also_room.Tie as tie
 
 returns : tie.Need-returns
 returns c = rw (c .if1 .taken)
