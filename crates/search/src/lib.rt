@@ -7,19 +7,17 @@ use definition::GatheredElement;
 use definition::JacobianMatrix;
 use definition::Point;
 use definition::Reference;
-use mapping::Frame;
 use places::ElementBest;
 use places::FaceBest;
 ghost use mathlib.Core.Path.{_≡_};
-ghost use mathlib.Core.Bool.{true, false, _||_};
-ghost use lib.Ieee.{lt, le};
+ghost use mathlib.Core.Bool.{true, false};
 ghost use lib.ListN.{getD};
-ghost use Rattle.definition.specs.Binary64.{plus0, clampOf, magnitude};
-ghost use Rattle.definition.specs.Mapping.{pointAt, jacobianAt};
+ghost use Rattle.definition.specs.Binary64.{plus0};
+ghost use Rattle.definition.specs.Mapping.{pointAt};
 ghost use Rattle.definition.specs.Search.{hessianDet, nextReference, tangentSquare, nextS, walked, placed, reference, elementStep, elementSeeds, elementBest, faceStep, facePoint, faceSeeds, faceBest, closestReferencePoint, closestFacePoint};
 ghost use Rattle.mapping.specs.Element.{element};
 ghost use Rattle.places.specs.Places.{elementPlace, facePlace, ofElement, ofFace};
-ghost use Rattle.search.specs.Search.{chosen, Stepped, Remembered};
+ghost use Rattle.steps.specs.Steps.{chosen, Stepped, Remembered};
 
 // 2^-46: no step is made where the determinant of J transposed times J is at most this in magnitude.
 const SINGULAR: f64 = 1.4210854715202004e-14;
@@ -30,52 +28,16 @@ const SHORT_SQUARE: f64 = 4.930380657631324e-32;
 // 2^-52: no step is made on a face whose squared tangent is at most this, and a step of at most this is the last.
 const EPSILON: f64 = 2.220446049250313e-16;
 
-// Within [-1, 1], and -1 for NaN.
-fn clamp(x: f64) -> f64
-    ensures { λ r. ⌜ r ≡ clampOf x ⌝ }
-{
-    if x > -1.0 {
-        if x < 1.0 { x } else { 1.0 }
-    } else {
-        -1.0
-    }
-}
-
-// Whether the magnitude of x is at most `bound`: no for NaN.
-fn within(x: f64, bound: f64) -> bool
-    ensures { λ r. ⌜ r ≡ le (magnitude x) bound ⌝ }
-{
-    if x < 0.0 { -x <= bound } else { x <= bound }
-}
-
-// ---- what both searches share
-
-// Whether two numbers are one, to the bit: the zeros differ, and a NaN is not compared.
-fn same(a: f64, b: f64) -> bool
-    ensures { λ r. ⌜ (r ≡ true → a ≡ b) ⌝ }
-{
-    if a == b {
-        f64::to_bits(a) == f64::to_bits(b)
-    } else {
-        false
-    }
-}
+// ---- element
 
 fn same_reference(a: Reference, b: Reference) -> bool
     ensures { λ r. ⌜ (r ≡ true → a ≡ b) ⌝ }
 {
-    if same(a.xi, b.xi) {
-        same(a.eta, b.eta)
+    if steps::same(a.xi, b.xi) {
+        steps::same(a.eta, b.eta)
     } else {
         false
     }
-}
-
-// Whether a step is remembered that is made from s.
-fn is_known(known: bool, s: f64, from: f64) -> bool
-    ensures { λ r. ⌜ (r ≡ true → (known ≡ true) × (s ≡ from)) ⌝ }
-{
-    if known { same(s, from) } else { false }
 }
 
 fn is_known_reference(known: bool, r: Reference, from: Reference) -> bool
@@ -87,37 +49,6 @@ fn is_known_reference(known: bool, r: Reference, from: Reference) -> bool
         false
     }
 }
-
-// Whether a place is the first, or has a smaller square than the best.
-fn is_taken(first: bool, square: f64, best_square: f64) -> bool
-    ensures { λ r. ⌜ r ≡ first || lt square «best_square» ⌝ }
-{
-    if first { true } else { square < best_square }
-}
-
-// `point_at`. Family 4 by its number is short enough for the compiler to put it in line.
-fn point_of(count: usize, xy: &[f64; 18], r: Reference) -> Point
-    ensures { λ p. ⌜ p ≡ pointAt (element count (now (xy .entry))) r ⌝ }
-{
-    if count == 4 {
-        mapping::point_at(4, xy, r)
-    } else {
-        mapping::point_at(count, xy, r)
-    }
-}
-
-// `frame_at`, with the families apart: the compiler puts that of family 4 in line and calls that of family 9.
-fn frame_of(count: usize, xy: &[f64; 18], r: Reference) -> Frame
-    ensures { λ f. ⌜ (f .point ≡ pointAt (element count (now (xy .entry))) r) × (f .jacobian ≡ jacobianAt (element count (now (xy .entry))) r) ⌝ }
-{
-    if count == 9 {
-        mapping::frame9(xy, r.xi, r.eta)
-    } else {
-        mapping::frame4(xy, r.xi, r.eta)
-    }
-}
-
-// ---- element
 
 // The determinant of J transposed times J.
 fn hessian_det(j: JacobianMatrix) -> f64
@@ -153,8 +84,8 @@ fn next_reference(j: JacobianMatrix, det: f64, u: f64, v: f64, r: Reference) -> 
     let h11 = xeta * xeta + yeta * yeta;
     let gxi = xxi * u + yxi * v;
     let geta = xeta * u + yeta * v;
-    let xi = clamp(r.xi - (gxi * h11 - h01 * geta) / det);
-    let eta = clamp(r.eta - (h00 * geta - gxi * h10) / det);
+    let xi = steps::clamp(r.xi - (gxi * h11 - h01 * geta) / det);
+    let eta = steps::clamp(r.eta - (h00 * geta - gxi * h10) / det);
     Reference { xi, eta }
 }
 
@@ -167,9 +98,9 @@ struct ElementStep {
 fn element_step(count: usize, xy: &[f64; 18], target: Point, r: Reference) -> ElementStep
     ensures { λ s. ⌜ Stepped (elementStep (element count (now (xy .entry))) target) r (s .next) (s .ended) ⌝ }
 {
-    let f = frame_of(count, xy, r);
+    let f = steps::frame_of(count, xy, r);
     let det = hessian_det(f.jacobian);
-    if within(det, SINGULAR) {
+    if steps::within(det, SINGULAR) {
         return ElementStep {
             next: r,
             ended: true,
@@ -240,7 +171,7 @@ fn element_walk(
 fn element_place(count: usize, xy: &[f64; 18], target: Point, r: Reference) -> ElementBest
     ensures { λ b. ⌜ b ≡ elementPlace (placed (pointAt (element count (now (xy .entry)))) target r) ⌝ }
 {
-    let point = point_of(count, xy, r);
+    let point = steps::point_of(count, xy, r);
     let square = root::squared_distance(point.x, point.y, target.x, target.y);
     ElementBest {
         reference: r,
@@ -287,7 +218,7 @@ fn better_element(
         }
     }
     let new = element_place(count, xy, target, r);
-    if is_taken(first, new.square, best.square) {
+    if steps::is_taken(first, new.square, best.square) {
         new
     } else {
         best
@@ -357,12 +288,19 @@ pub fn closest_reference_point(
 
 // ---- face
 
+// Whether a step is remembered that is made from s.
+fn is_known(known: bool, s: f64, from: f64) -> bool
+    ensures { λ r. ⌜ (r ≡ true → (known ≡ true) × (s ≡ from)) ⌝ }
+{
+    if known { steps::same(s, from) } else { false }
+}
+
 // The coordinate after a step from s, along the tangent d; (u, v) is the residual and square the squared tangent.
 fn next_s(d: Point, square: f64, u: f64, v: f64, s: f64) -> f64
     requires { ⌜ square ≡ tangentSquare d ⌝ }
     ensures { λ n. ⌜ n ≡ nextS d u v s ⌝ }
 {
-    clamp(s - (d.x * u + d.y * v) / square)
+    steps::clamp(s - (d.x * u + d.y * v) / square)
 }
 
 // What one step from a coordinate comes to: the coordinate after it, and whether the seed's steps end there.
@@ -375,7 +313,7 @@ fn face_step(count: usize, xy: &[f64; 18], local_face: u8, target: Point, s: f64
     ensures { λ n. ⌜ Stepped (faceStep (element count (now (xy .entry))) «local_face» target) s (n .next) (n .ended) ⌝ }
 {
     let f = elements::face_reference(local_face, s);
-    let g = frame_of(
+    let g = steps::frame_of(
         count,
         xy,
         Reference {
@@ -394,7 +332,7 @@ fn face_step(count: usize, xy: &[f64; 18], local_face: u8, target: Point, s: f64
     let next = next_s(d, square, g.point.x - target.x, g.point.y - target.y, s);
     FaceStep {
         next,
-        ended: within(next - s, EPSILON),
+        ended: steps::within(next - s, EPSILON),
     }
 }
 
@@ -451,7 +389,7 @@ fn face_place(count: usize, xy: &[f64; 18], local_face: u8, target: Point, s: f6
     ensures { λ b. ⌜ b ≡ facePlace (placed (facePoint (element count (now (xy .entry))) «local_face») target s) ⌝ }
 {
     let f = elements::face_reference(local_face, s);
-    let point = point_of(
+    let point = steps::point_of(
         count,
         xy,
         Reference {
@@ -488,12 +426,12 @@ fn better_face(
     ensures { λ b. ⌜ b ≡ facePlace (chosen first (ofFace best) (placed (facePoint (element count (now (xy .entry))) «local_face») target s)) ⌝ }
 {
     if !first {
-        if same(s, best.s) {
+        if steps::same(s, best.s) {
             return best;
         }
     }
     let new = face_place(count, xy, local_face, target, s);
-    if is_taken(first, new.square, best.square) {
+    if steps::is_taken(first, new.square, best.square) {
         new
     } else {
         best

@@ -4,7 +4,7 @@ use Rattle.definition.specs.Mapping.{pointAt}
 use Rattle.definition.specs.Search.{placed}
 use Rattle.mapping.specs.Element.{element}
 use Rattle.places.specs.Places.{elementPlace, ofElement}
-use Rattle.search.proofs.Tried.{later, met, taken, kept}
+use Rattle.steps.proofs.Tried.{later, met, taken, kept}
 use Rattle.search.proofs.better_element.Statement.{statement}
 use Rattle.search.proofs.better_element.Tie as tie
 

@@ -3,7 +3,7 @@ use mathlib.Core.Path.{ap, sym, _∙_}
 use Rattle.definition.specs.Search.{placed, facePoint}
 use Rattle.mapping.specs.Element.{element}
 use Rattle.places.specs.Places.{facePlace, ofFace}
-use Rattle.search.proofs.Tried.{later, met, taken, kept}
+use Rattle.steps.proofs.Tried.{later, met, taken, kept}
 use Rattle.search.proofs.better_face.Statement.{statement}
 use Rattle.search.proofs.better_face.Tie as tie
 
@@ -13,7 +13,7 @@ returns c =
     let s = again .before in
     let a = s .args in
     let after = later (a .first) (again .if1 .taken) in
-    rw after (ap facePlace (met (facePoint (element (a .count) (a .xy .now)) (a .local-face)) (a .target) {best = ofFace (a .best)} (s .pre after) (c .before .same .ensures (c .if2 .taken))))
+    rw after (ap facePlace (met (facePoint (element (a .count) (a .xy .now)) (a .local-face)) (a .target) {best = ofFace (a .best)} (s .pre after) (c .before .same .ensures .1 (c .if2 .taken))))
 
 returns-2 : tie.Need-returns-2
 returns-2 c =

@@ -9,8 +9,8 @@ use Rattle.definition.specs.Mapping.{pointAt}
 use Rattle.definition.specs.Search.{reference, elementStep, elementSeeds, elementBest}
 use Rattle.mapping.specs.Element.{element}
 use Rattle.places.specs.Places.{elementPlace, ofElement}
-use Rattle.search.specs.Search.{Remembered}
-use Rattle.search.proofs.Tried.{InHand, beginning, tried, own, next}
+use Rattle.steps.specs.Steps.{Remembered}
+use Rattle.steps.proofs.Tried.{InHand, beginning, tried, own, next}
 use Rattle.search.proofs.element_best.Statement.{statement}
 use Rattle.search.proofs.element_best.Tie as tie
 

@@ -1,6 +1,6 @@
 -- `search::element_step` meets its contract: by the definition's step, which stays, is the last or goes on. Assumes nothing.
 use lib.Ieee.{ofBits}
-use Rattle.search.proofs.Memory.{stepped-stay, stepped}
+use Rattle.steps.proofs.Memory.{stepped-stay, stepped}
 use Rattle.search.proofs.Steps.{element-stays, element-ends, element-goes}
 use Rattle.search.proofs.element_step.Statement.{statement}
 use Rattle.search.proofs.element_step.Tie as tie

@@ -4,8 +4,8 @@ use native.Mathlib.Omega.{arith}
 use Rattle.definition.specs.Search.{elementStep, walked}
 use Rattle.definition.proofs.Search.{walked-none, walked-more}
 use Rattle.mapping.specs.Element.{element}
-use Rattle.search.specs.Search.{Remembered}
-use Rattle.search.proofs.Memory.{ended}
+use Rattle.steps.specs.Steps.{Remembered}
+use Rattle.steps.proofs.Memory.{ended}
 use Rattle.search.proofs.element_walk.Statement.{statement}
 use Rattle.search.proofs.element_walk.Tie as tie
 

@@ -8,8 +8,8 @@ use Rattle.definition.specs.Binary64.{plus0}
 use Rattle.definition.specs.Search.{facePoint, faceStep, faceSeeds, faceBest}
 use Rattle.mapping.specs.Element.{element}
 use Rattle.places.specs.Places.{facePlace, ofFace}
-use Rattle.search.specs.Search.{Remembered}
-use Rattle.search.proofs.Tried.{InHand, beginning, tried, own, next}
+use Rattle.steps.specs.Steps.{Remembered}
+use Rattle.steps.proofs.Tried.{InHand, beginning, tried, own, next}
 use Rattle.search.proofs.face_best.Statement.{statement}
 use Rattle.search.proofs.face_best.Tie as tie
 

@@ -2,7 +2,7 @@
 use mathlib.Core.Path.{refl}
 use lib.Ieee.{ofBits}
 use Rattle.definition.specs.Search.{tangentSquare}
-use Rattle.search.proofs.Memory.{stepped-stay, stepped}
+use Rattle.steps.proofs.Memory.{stepped-stay, stepped}
 use Rattle.search.proofs.Steps.{face-stays, face-ends, face-goes}
 use Rattle.search.proofs.face_step.Statement.{statement}
 use Rattle.search.proofs.face_step.Tie as tie

@@ -4,7 +4,7 @@ use Rattle.search.proofs.is_known.Statement.{statement}
 use Rattle.search.proofs.is_known.Tie as tie
 
 returns : tie.Need-returns
-returns c h = (c .before .if1 .taken, c .same .ensures h)
+returns c h = (c .before .if1 .taken, c .same .ensures .1 h)
 
 returns-2 : tie.Need-returns-2
 returns-2 c h = absurd (false≢true h)

@@ -4,7 +4,7 @@ use Rattle.search.proofs.same_reference.Statement.{statement}
 use Rattle.search.proofs.same_reference.Tie as tie
 
 returns : tie.Need-returns
-returns c h = rw (c .before .before .same .ensures (c .before .if1 .taken), c .same2 .ensures h)
+returns c h = rw (c .before .before .same .ensures .1 (c .before .if1 .taken), c .same2 .ensures .1 h)
 
 returns-2 : tie.Need-returns-2
 returns-2 c h = absurd (false≢true h)

@@ -1,8 +1,8 @@
--- `search::within` meets its contract: the magnitude turns the sign where the number is below 0. Assumes nothing.
+-- `steps::within` meets its contract: the magnitude turns the sign where the number is below 0. Assumes nothing.
 use lib.Ieee.{ofBits}
 use Rattle.definition.proofs.Binary64.{magnitude-by-comparison}
-use Rattle.search.proofs.within.Statement.{statement}
-use Rattle.search.proofs.within.Tie as tie
+use Rattle.steps.proofs.within.Statement.{statement}
+use Rattle.steps.proofs.within.Tie as tie
 
 returns : tie.Need-returns
 unfolding ofBits

@@ -6,7 +6,7 @@ use native.Mathlib.Nat.{zero-lt-suc}
 use native.Mathlib.Omega.{arith}
 use Rattle.definition.specs.Search.{Step, stay, last, more, walked}
 use Rattle.definition.proofs.Search.{walked-stay, walked-last}
-use Rattle.search.specs.Search.{Ends, Stepped}
+use Rattle.steps.specs.Steps.{Ends, Stepped}
 
 module _ {A : Type 0} (step : A → Step A) where
   pub stepped-stay : (a : A) → step a ≡ stay → Stepped step a a true

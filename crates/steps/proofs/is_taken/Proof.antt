@@ -1,6 +1,6 @@
--- `search::is_taken` meets its contract: by cases on whether the place is the first. Assumes nothing.
-use Rattle.search.proofs.is_taken.Statement.{statement}
-use Rattle.search.proofs.is_taken.Tie as tie
+-- `steps::is_taken` meets its contract: by cases on whether the place is the first. Assumes nothing.
+use Rattle.steps.proofs.is_taken.Statement.{statement}
+use Rattle.steps.proofs.is_taken.Tie as tie
 
 returns : tie.Need-returns
 returns c = rw (c .if1 .taken)

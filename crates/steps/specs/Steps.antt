@@ -1,8 +1,14 @@
 -- What the code knows of steps, and of the first place.
 use mathlib.Core.Path.{_≡_}
-use mathlib.Core.Bool.{Bool, true, false, cond}
+use mathlib.Core.Bool.{Bool, true, false, cond, _&&_}
 use Prim.Native.Nat.{ℕ, suc}
+use lib.Dec.{eqb}
+use lib.Ieee.{Float, binary64, toBits, eq}
 use Rattle.definition.specs.Search.{Step, more, walked, Best, nearer}
+
+-- whether two numbers are equal and have the same bits: +0 and -0 do not, and a NaN equals nothing
+unfoldable pub oneNumber : Float → Float → Bool
+oneNumber a b = eq a b && eqb (toBits binary64 a) (toBits binary64 b)
 
 -- the first place is the best, and after it the nearer one
 unfoldable pub chosen : {A : Type 0} → Bool → Best A → Best A → Best A

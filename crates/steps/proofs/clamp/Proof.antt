@@ -1,8 +1,8 @@
--- `search::clamp` meets its contract: by comparisons the clamp is the definition's, for NaN too. Assumes nothing.
+-- `steps::clamp` meets its contract: by comparisons the clamp is the definition's, for NaN too. Assumes nothing.
 use lib.Ieee.{ofBits, neg}
 use Rattle.definition.proofs.Binary64.{clamp-by-comparisons}
-use Rattle.search.proofs.clamp.Statement.{statement}
-use Rattle.search.proofs.clamp.Tie as tie
+use Rattle.steps.proofs.clamp.Statement.{statement}
+use Rattle.steps.proofs.clamp.Tie as tie
 
 returns : tie.Need-returns
 unfolding ofBits neg

@@ -10,7 +10,7 @@ use lib.Ieee.{lt}
 use Rattle.definition.specs.Search.{Step, walked, Best, placed, nearer, bestOf}
 use Rattle.definition.specs.declared.Point.{Point}
 use Rattle.definition.proofs.Choice.{lt-self}
-use Rattle.search.specs.Search.{chosen}
+use Rattle.steps.specs.Steps.{chosen}
 
 -- ---- one place
 

@@ -1,0 +1,72 @@
+// What the element search and the face search share: how far a step may go, when two places are one, when a place is taken, and the point and the frame at a reference. The laws of steps, and of the best after each seed, stand in its proofs.
+// It knows the definition and the elements' map; nothing of a seed or of a loop.
+
+use definition::Point;
+use definition::Reference;
+use mapping::Frame;
+ghost use mathlib.Core.Path.{_≡_};
+ghost use mathlib.Core.Bool.{true, _||_};
+ghost use lib.Ieee.{lt, le};
+ghost use Rattle.definition.specs.Binary64.{clampOf, magnitude};
+ghost use Rattle.definition.specs.Mapping.{pointAt, jacobianAt};
+ghost use Rattle.mapping.specs.Element.{element};
+ghost use Rattle.steps.specs.Steps.{oneNumber};
+
+// Within [-1, 1], and -1 for NaN.
+pub fn clamp(x: f64) -> f64
+    ensures { λ r. ⌜ r ≡ clampOf x ⌝ }
+{
+    if x > -1.0 {
+        if x < 1.0 { x } else { 1.0 }
+    } else {
+        -1.0
+    }
+}
+
+// Whether the magnitude of x is at most `bound`: no for NaN.
+pub fn within(x: f64, bound: f64) -> bool
+    ensures { λ r. ⌜ r ≡ le (magnitude x) bound ⌝ }
+{
+    if x < 0.0 { -x <= bound } else { x <= bound }
+}
+
+// Whether two numbers are one, to the bit: the zeros differ, and a NaN is not compared.
+pub fn same(a: f64, b: f64) -> bool
+    ensures { λ r. ⌜ r ≡ oneNumber a b ⌝ }
+    ensures { λ r. ⌜ (r ≡ true → a ≡ b) ⌝ }
+{
+    if a == b {
+        f64::to_bits(a) == f64::to_bits(b)
+    } else {
+        false
+    }
+}
+
+// Whether a place is the first, or has a smaller square than the best.
+pub fn is_taken(first: bool, square: f64, best_square: f64) -> bool
+    ensures { λ r. ⌜ r ≡ first || lt square «best_square» ⌝ }
+{
+    if first { true } else { square < best_square }
+}
+
+// `point_at`. Family 4 by its number is short enough for the compiler to put it in line.
+pub fn point_of(count: usize, xy: &[f64; 18], r: Reference) -> Point
+    ensures { λ p. ⌜ p ≡ pointAt (element count (now (xy .entry))) r ⌝ }
+{
+    if count == 4 {
+        mapping::point_at(4, xy, r)
+    } else {
+        mapping::point_at(count, xy, r)
+    }
+}
+
+// `frame_at`, with the families apart: the compiler puts that of family 4 in line and calls that of family 9.
+pub fn frame_of(count: usize, xy: &[f64; 18], r: Reference) -> Frame
+    ensures { λ f. ⌜ (f .point ≡ pointAt (element count (now (xy .entry))) r) × (f .jacobian ≡ jacobianAt (element count (now (xy .entry))) r) ⌝ }
+{
+    if count == 9 {
+        mapping::frame9(xy, r.xi, r.eta)
+    } else {
+        mapping::frame4(xy, r.xi, r.eta)
+    }
+}
