@@ -113,7 +113,7 @@ fn nearer_face(
     requires { ⌜ best .projection .distance ≡ rootOf (best .square) ⌝ }
     ensures { λ r. ⌜ r ≡ nearerFace best (faceNear (element count (now (xy .entry))) «element_index» «local_face» target «max_iterations») ⌝ }
 {
-    let found = search::face_best(count, xy, local_face, target.x, target.y, max_iterations);
+    let found = face_search::face_best(count, xy, local_face, target.x, target.y, max_iterations);
     kept_face(best, element_index, local_face, found)
 }
 
@@ -148,12 +148,12 @@ fn first_nearest(e: GatheredElement, target: Point, max_iterations: usize) -> Wa
 {
     let element = near_element(
         0,
-        search::element_best(e.count, &e.xy, target.x, target.y, max_iterations),
+        element_search::element_best(e.count, &e.xy, target.x, target.y, max_iterations),
     );
     let face = near_face(
         0,
         0,
-        search::face_best(e.count, &e.xy, 0, target.x, target.y, max_iterations),
+        face_search::face_best(e.count, &e.xy, 0, target.x, target.y, max_iterations),
     );
     Walk { element, face }
 }
@@ -202,7 +202,7 @@ fn nearer(
     if max_iterations == 0 {
         return nearer_at_seeds(best, e.count, &e.xy, element_index, target);
     }
-    let found = search::element_best(e.count, &e.xy, target.x, target.y, max_iterations);
+    let found = element_search::element_best(e.count, &e.xy, target.x, target.y, max_iterations);
     let element = kept_element(best.element, element_index, found);
     let face = nearer_face(
         best.face,

@@ -1,4 +1,4 @@
--- What the code knows of steps, and of the first place.
+-- What the code knows of steps, of the first place, and of two numbers that are one.
 use mathlib.Core.Path.{_≡_}
 use mathlib.Core.Bool.{Bool, true, false, cond, _&&_}
 use Prim.Native.Nat.{ℕ, suc}

@@ -1,5 +1,5 @@
 // What the element search and the face search share: how far a step may go, when two places are one, when a place is taken, and the point and the frame at a reference. The laws of steps, and of the best after each seed, stand in its proofs.
-// It knows the definition and the elements' map; nothing of a seed or of a loop.
+// It knows the definition and an element's map; nothing of what a seed or a step is in either search.
 
 use definition::Point;
 use definition::Reference;
