@@ -19,11 +19,6 @@ chosen-more answer distance n p q = rw (p, q, pick-next (λ i. distance (answer 
     by true = refl
     by false = refl
 
--- what holds of both holds of the one that is kept
-pub of-either : {A : Type 0} (P : A → Type 0) (b : Bool) {x y : A} → P x → P y → P (cond b x y)
-of-either P true p q = p
-of-either P false p q = q
-
 -- the root keeps the order: where a square is not smaller, its root is not
 pub rooted-not-smaller : (x y : Float) → T (fits binary64 x) → T (fits binary64 y) → lt x y ≡ false → lt (rootOf x) (rootOf y) ≡ false
 rooted-not-smaller x y f g h = is-false (lt (rootOf x) (rootOf y)) (not-T (lt (rootOf x) (rootOf y)) (root-not-lt x y f g (λ t. rw h at t)))

@@ -2,8 +2,6 @@
 use mathlib.Core.Path.{_≡_, refl, ap, _∙_}
 use Prim.Native.Nat.{ℕ, _+_, _*_, _/_, _%_, _<_}
 use native.Mathlib.Omega.{arith}
-use lib.Ieee.{lt}
-use Rattle.definition.specs.Root.{rootOf}
 use Rattle.definition.specs.Choice.{pick, nodeSquare, nodeAnswer, elementDistance, faceDistance, pointAnswer}
 use Rattle.definition.specs.Mesh.{Mesh, nodeCount, elementCount, gathered}
 use Rattle.definition.specs.Search.{closestReferencePoint, closestFacePoint}
@@ -15,21 +13,7 @@ use Rattle.nearest.specs.Nearest.{elementNear, faceNear, nearerElement, 
 use Rattle.nearest.specs.declared.NearElement.{NearElement}
 use Rattle.nearest.specs.declared.NearFace.{NearFace}
 use Rattle.nearest.specs.declared.Walk.{Walk}
-use Rattle.nearest.proofs.Choosing.{chosen-more, of-either}
-
--- ---- each distance is the root of the square beside it
-
-abbrev pub RootedElement : NearElement → Type 0
-RootedElement n = n .projection .distance ≡ rootOf (n .square)
-
-abbrev pub RootedFace : NearFace → Type 0
-RootedFace n = n .projection .distance ≡ rootOf (n .square)
-
-pub rooted-face : (best next : NearFace) → RootedFace best → RootedFace next → RootedFace (nearerFace best next)
-unfolding nearerFace
-rooted-face best next p q = of-either RootedFace (lt (next .projection .distance) (best .projection .distance)) q p
-
--- ---- the walks
+use Rattle.nearest.proofs.Choosing.{chosen-more}
 
 module _ (m : Mesh) (limit : ℕ) (t : Point) where
   abbrev element : ℕ → NearElement

@@ -92,6 +92,7 @@ fn kept_element(best: NearElement, element_index: usize, found: ElementBest) -> 
 fn kept_face(best: NearFace, element_index: usize, local_face: u8, found: FaceBest) -> NearFace
     requires { ⌜ best .projection .distance ≡ rootOf (best .square) ⌝ }
     ensures { λ r. ⌜ r ≡ nearerFace best (rootedFace «element_index» «local_face» found) ⌝ }
+    ensures { λ r. ⌜ r .projection .distance ≡ rootOf (r .square) ⌝ }
 {
     if is_nearer(found.square, best.square, best.projection.distance) {
         near_face(element_index, local_face, found)
@@ -112,6 +113,7 @@ fn nearer_face(
 ) -> NearFace
     requires { ⌜ best .projection .distance ≡ rootOf (best .square) ⌝ }
     ensures { λ r. ⌜ r ≡ nearerFace best (faceNear (element count (now (xy .entry))) «element_index» «local_face» target «max_iterations») ⌝ }
+    ensures { λ r. ⌜ r .projection .distance ≡ rootOf (r .square) ⌝ }
 {
     let found = face_search::face_best(count, xy, local_face, target.x, target.y, max_iterations);
     kept_face(best, element_index, local_face, found)
