@@ -30,7 +30,7 @@ fn after(v: Verdict, w: Verdict) -> Verdict
 fn references_whole(values: usize, count: usize) -> bool
     ensures { λ r. ⌜ r ≡ whole 2 values && leb count 1000000 ⌝ }
 {
-    if questions::whole(2, values) {
+    if asking::whole(2, values) {
         count <= 1000000
     } else {
         false
@@ -49,7 +49,7 @@ fn mesh_questions(
 {
     let v = questions::mesh_questions(family, nodes_rz, elements);
     let holds = references_whole(reference_points.len(), element_indices.len());
-    questions::then(v, holds, 5, 0)
+    asking::then(v, holds, 5, 0)
 }
 
 // The verdict so far, and after a pass questions 8 and 11.
@@ -66,7 +66,7 @@ fn number_questions(
 {
     let w = questions::connectivity_question(family, nodes_rz, elements);
     let v = after(v, w);
-    questions::then(
+    asking::then(
         v,
         element_indices.len() == reference_points.len() / 2,
         11,
@@ -92,7 +92,7 @@ fn list_questions(
         element_indices,
         reference_points,
     );
-    let v = questions::then(v, room, 7, 0);
+    let v = asking::then(v, room, 7, 0);
     number_questions(
         v,
         family,
@@ -171,7 +171,7 @@ pub fn strain_questions(
 fn materials_whole(table_len: usize, pairs_given: bool, pairs_len: usize) -> bool
     ensures { λ r. ⌜ r ≡ whole 16 «table_len» && (not «pairs_given» || eqb («pairs_len» % 2) 0) ⌝ }
 {
-    if questions::whole(16, table_len) {
+    if asking::whole(16, table_len) {
         if pairs_given {
             pairs_len % 2 == 0
         } else {
@@ -216,8 +216,8 @@ fn material_questions(
         reference_points,
     );
     let holds = materials_whole(material_table.len(), pairs_given, pairs.len());
-    let v = questions::then(v, holds, 6, 0);
-    let v = questions::then(v, room, 7, 0);
+    let v = asking::then(v, holds, 6, 0);
+    let v = asking::then(v, room, 7, 0);
     let v = number_questions(
         v,
         family,
@@ -227,8 +227,8 @@ fn material_questions(
         reference_points,
     );
     let count = elements.len() / elements::nodes_per_element(family);
-    let v = questions::then(v, material_ids.len() == count, 12, 0);
-    questions::then(v, pairs_match(pairs_given, pairs.len(), count), 13, 0)
+    let v = asking::then(v, material_ids.len() == count, 12, 0);
+    asking::then(v, pairs_match(pairs_given, pairs.len(), count), 13, 0)
 }
 
 pub fn stress_questions(

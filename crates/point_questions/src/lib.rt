@@ -21,7 +21,7 @@ fn element_question(p: usize, family: usize, elements: &[u32], element_index: us
     ensures { λ r. ⌜ verdictOutcome r ≡ asked (elementKnown (record { family = family; nodes = []; elements = now (elements .entry) }) p «element_index» ∷ []) tt ⌝ }
 {
     let count = elements.len() / elements::nodes_per_element(family);
-    questions::then(Verdict::Passed, element_index < count, 14, p)
+    asking::then(Verdict::Passed, element_index < count, 14, p)
 }
 
 // ---- one point
@@ -39,10 +39,10 @@ fn place_questions(
         verdictOutcome r ≡ onward (verdictOutcome v) (asked (notInverted e p reference ∷ offAxis formulation e p reference) tt)) ⌝ }
 {
     let frame = mapping::frame_at(family, coords, reference);
-    let v = questions::then(v, !(gradients::det_j(frame.jacobian) <= 0.0), 16, p);
+    let v = asking::then(v, !(gradients::det_j(frame.jacobian) <= 0.0), 16, p);
     match formulation {
         Structural2dFormulation::Axisymmetric => {
-            questions::then(v, !(frame.point.x <= EPSILON), 17, p)
+            asking::then(v, !(frame.point.x <= EPSILON), 17, p)
         }
         Structural2dFormulation::PlaneStrain { .. } => v,
     }
@@ -84,7 +84,7 @@ fn stress_questions_at(
         verdictOutcome r ≡ asked (elementKnown m p «element_index» ∷ ask 15 p (ltb material materials) ∷ notInverted (gathered m «element_index») p reference ∷ offAxis formulation (gathered m «element_index») p reference) tt) ⌝ }
 {
     let v = element_question(p, family, elements, element_index);
-    let v = questions::then(v, material < materials, 15, p);
+    let v = asking::then(v, material < materials, 15, p);
     let mut xy = [0.0; 18];
     mesh::put_element_coords(family, nodes_rz, elements, element_index, &mut xy);
     let count = elements::nodes_per_element(family);

@@ -1,52 +1,24 @@
-// The questions on the lists of a mesh and those of a query, and how questions are put one after the other. It knows the definition and the families: no search, no lent output and no job file.
+// The questions on the lists of a mesh and those of a query. It knows the definition and the families: no search, no lent output and no job file.
 // A mesh is three parameters: its family; `nodes_rz`, two coordinates a node in the mesh's unit of length; and `elements`, the connectivity, F node numbers an element.
 ghost use mathlib.Core.Path.{_≡_};
 ghost use mathlib.Core.List.{[], _∷_, _++_};
 ghost use Prim.Native.Nat.{_^_, _<_};
 ghost use lib.Dec.{leb};
 ghost use Rattle.definition.specs.Mesh.{Mesh, elementCount, pairCount};
-ghost use Rattle.definition.specs.Questions.{ask, asked, onward, verdictOutcome, whole, familyKnown, nodesWhole, elementsWhole, nodeNumbers, someNode, someElement};
+ghost use Rattle.definition.specs.Questions.{ask, asked, verdictOutcome, familyKnown, nodesWhole, elementsWhole, nodeNumbers, someNode, someElement};
 ghost use Rattle.definition.specs.Query.{QueryLists, queryRoom, queryQuestions};
 use definition::Verdict;
-
-// The verdict so far, and after a pass one question more: where it does not hold, its number and its place.
-pub fn then(v: Verdict, holds: bool, question: u8, place: usize) -> Verdict
-    ensures { λ r. ⌜ verdictOutcome r ≡ onward (verdictOutcome v) (asked (ask question place holds ∷ []) tt) ⌝ }
-{
-    match v {
-        Verdict::Passed => if holds {
-            Verdict::Passed
-        } else {
-            Verdict::Refused { question, place }
-        },
-        Verdict::Refused { .. } => v,
-    }
-}
-
-// Whether a list of len numbers is whole records of size numbers, at most 1,000,000 of them. With size 0 only the empty list is.
-pub fn whole(size: usize, len: usize) -> bool
-    ensures { λ r. ⌜ r ≡ whole size len ⌝ }
-{
-    if size == 0 {
-        return len == 0;
-    }
-    if len % size == 0 {
-        len / size <= 1000000
-    } else {
-        false
-    }
-}
 
 // Questions 1, 2 and 3, each at place 0: is the family 4 or 9, are there whole nodes and whole elements, at most 1,000,000 of each?
 pub fn mesh_questions(family: usize, nodes_rz: &[f64], elements: &[u32]) -> Verdict
     ensures { λ r. ⌜ (let m : Mesh = record { family = family; nodes = now («nodes_rz» .entry); elements = now (elements .entry) } in
         verdictOutcome r ≡ asked (familyKnown m ∷ nodesWhole m ∷ elementsWhole m ∷ []) tt) ⌝ }
 {
-    let mut v = then(Verdict::Passed, elements::is_family(family), 1, 0);
-    v = then(v, whole(2, nodes_rz.len()), 2, 0);
-    then(
+    let mut v = asking::then(Verdict::Passed, elements::is_family(family), 1, 0);
+    v = asking::then(v, asking::whole(2, nodes_rz.len()), 2, 0);
+    asking::then(
         v,
-        whole(elements::nodes_per_element(family), elements.len()),
+        asking::whole(elements::nodes_per_element(family), elements.len()),
         3,
         0,
     )
@@ -89,7 +61,7 @@ pub fn connectivity_question(family: usize, nodes_rz: &[f64], elements: &[u32]) 
     ensures { λ r. ⌜ verdictOutcome r ≡ asked (nodeNumbers (record { family = family; nodes = now («nodes_rz» .entry); elements = now (elements .entry) })) tt ⌝ }
 {
     let bad = first_bad(family, nodes_rz, elements);
-    then(
+    asking::then(
         Verdict::Passed,
         elements.len() / elements::nodes_per_element(family) <= bad,
         8,
@@ -103,8 +75,8 @@ fn content_questions(family: usize, nodes_rz: &[f64], elements: &[u32]) -> Verdi
         verdictOutcome r ≡ asked (nodeNumbers m ++ someNode m ∷ someElement m ∷ []) tt) ⌝ }
 {
     let mut v = connectivity_question(family, nodes_rz, elements);
-    v = then(v, 0 < nodes_rz.len() / 2, 9, 0);
-    then(
+    v = asking::then(v, 0 < nodes_rz.len() / 2, 9, 0);
+    asking::then(
         v,
         0 < elements.len() / elements::nodes_per_element(family),
         10,
@@ -125,9 +97,9 @@ pub fn query_questions(
         verdictOutcome r ≡ asked (queryQuestions (record { mesh = record { family = family; nodes = now («nodes_rz» .entry); elements = now (elements .entry) }; iterations = «max_iterations»; points = now (points .entry) }) lent) tt) ⌝ }
 {
     let mut v = mesh_questions(family, nodes_rz, elements);
-    v = then(v, max_iterations <= 1000, 4, 0);
-    v = then(v, whole(2, points.len()), 5, 0);
-    v = then(v, room, 7, 0);
+    v = asking::then(v, max_iterations <= 1000, 4, 0);
+    v = asking::then(v, asking::whole(2, points.len()), 5, 0);
+    v = asking::then(v, room, 7, 0);
     if let Verdict::Refused { .. } = v {
         return v;
     }

@@ -3,8 +3,8 @@ use mathlib.Core.Bool.{and-true}
 use native.Mathlib.Nat.{mod-zero, div-zero}
 use borrow.Author.Needs.{needs}
 use borrow.Author.Tests.{eq-eqb, ne-eqb}
-use Rattle.questions.proofs.whole.Statement.{statement}
-use Rattle.questions.proofs.whole.Tie as tie
+use Rattle.asking.proofs.whole.Statement.{statement}
+use Rattle.asking.proofs.whole.Tie as tie
 
 returns : tie.Need-returns
 returns c = simp (c .if1 .taken, mod-zero, div-zero, and-true)

@@ -1,8 +1,8 @@
 -- `then` meets its contract: a refusal stays, and after a pass the answer to the question decides. Assumes nothing.
 use borrow.Author.Needs.{needs}
 use Rattle.definition.specs.Questions.{asked}
-use Rattle.questions.proofs.then.Statement.{statement}
-use Rattle.questions.proofs.then.Tie as tie
+use Rattle.asking.proofs.then.Statement.{statement}
+use Rattle.asking.proofs.then.Tie as tie
 
 enum-told : tie.Need-enum-told
 enum-told c = search needs
