@@ -5,7 +5,7 @@ use Rattle.definition.specs.Elements.{nodesOf}
 use Rattle.definition.specs.Lists.{over}
 use Rattle.definition.specs.Mesh.{Mesh, gathered}
 use Rattle.definition.specs.Rows.{basisAt, orientedMaterial}
-use Rattle.rows.proofs.Stress.{stress-of-strain}
+use Rattle.stress.proofs.StressValues.{stress-of-strain}
 use Rattle.stress.proofs.put_stress_at.Statement.{statement}
 use Rattle.stress.proofs.put_stress_at.Tie as tie
 
