@@ -10,7 +10,7 @@ use Rattle.definition.specs.Query.{QueryCall, QueryLists, QueryCounts, queryOut
 use Rattle.definition.specs.declared.QueryAnswer.{QueryAnswer}
 use Rattle.definition.proofs.Lists.{and-parts}
 use Rattle.definition.proofs.Passing.{passes, passes-append, asked-accepted, asked-value}
-use Rattle.questions.proofs.Asking.{early, late}
+use Rattle.query_questions.proofs.Asking.{early, late}
 use Rattle.filling.specs.Filled.{isInside, filled}
 use Rattle.query.specs.Query.{allowed}
 use Rattle.query.proofs.Room.{room-holds, filled-answers}

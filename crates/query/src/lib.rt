@@ -86,7 +86,14 @@ pub fn query_quad_mesh<'a>(
         nearest_face_points.len(),
         nearest_face_distances.len(),
     );
-    let v = questions::query_questions(family, max_iterations, nodes_rz, elements, points, room);
+    let v = query_questions::query_questions(
+        family,
+        max_iterations,
+        nodes_rz,
+        elements,
+        points,
+        room,
+    );
     let inside = filling::answer_points(
         allowed_points(v, count),
         family,

@@ -1,3 +1,2 @@
--- Laws that the proofs share; `Asking` is for those who ask the questions of a query, too.
-pub mod Asking
+-- What a walk over the elements finds of question 8.
 mod NodeNumbers

@@ -1,8 +1,8 @@
 -- `content_questions` meets its contract: each call of `then` adds the next question. Assumes nothing.
 use borrow.Author.Needs.{needs}
-use Rattle.questions.proofs.Asking.{late-asked}
-use Rattle.questions.proofs.content_questions.Statement.{statement}
-use Rattle.questions.proofs.content_questions.Tie as tie
+use Rattle.query_questions.proofs.Asking.{late-asked}
+use Rattle.query_questions.proofs.content_questions.Statement.{statement}
+use Rattle.query_questions.proofs.content_questions.Tie as tie
 
 returns : tie.Need-returns
 returns c =

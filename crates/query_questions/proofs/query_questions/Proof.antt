@@ -5,9 +5,9 @@ use borrow.Author.Needs.{needs}
 use Rattle.definition.specs.Mesh.{pairCount}
 use Rattle.definition.specs.Questions.{asked, onward, room, verdictOutcome}
 use Rattle.definition.specs.Query.{QueryCall, QueryLists, queryRoom}
-use Rattle.questions.proofs.Asking.{early, early-asked, early-refusal, late-answer}
-use Rattle.questions.proofs.query_questions.Statement.{statement}
-use Rattle.questions.proofs.query_questions.Tie as tie
+use Rattle.query_questions.proofs.Asking.{early, early-asked, early-refusal, late-answer}
+use Rattle.query_questions.proofs.query_questions.Statement.{statement}
+use Rattle.query_questions.proofs.query_questions.Tie as tie
 
 abbrev start : tie.After-then3 → tie.Start
 start v = v .before .before .before .before .before .before .before .before
