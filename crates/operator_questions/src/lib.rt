@@ -127,7 +127,7 @@ pub fn interpolation_questions(
     if let Verdict::Refused { .. } = v {
         return v;
     }
-    point_questions::interpolation_point_questions(family, elements, element_indices)
+    element_questions::interpolation_point_questions(family, elements, element_indices)
 }
 
 // ---- strain: 1, 2, 3, 5, 7, 8, 11, and for each point 14, 16, 17

@@ -1,2 +1,2 @@
--- What holds of questions put to one point after the other.
+-- What holds of questions put in parts.
 pub mod Asking

@@ -1,28 +1,20 @@
-// The questions that the operators ask of one point after the other: 14, 15, 16 and 17. The first no is the answer, with the point as its place.
+// The questions that strain and stress ask of one point after the other: 14, 15, 16 and 17. The first no is the answer, with the point as its place.
 // A mesh is three parameters: its family; `nodes_rz`, two coordinates a node; and `elements`, the connectivity. `element_indices` names the element of each point, and `reference_points` holds two reference coordinates a point.
 ghost use mathlib.Core.Path.{_≡_};
-ghost use mathlib.Core.List.{[], _∷_};
+ghost use mathlib.Core.List.{_∷_};
 ghost use lib.Dec.{ltb};
 ghost use lib.ListN.{length};
 ghost use Rattle.definition.specs.Lists.{each};
 ghost use Rattle.definition.specs.Mesh.{Mesh, gathered};
 ghost use Rattle.definition.specs.Questions.{ask, asked, onward, verdictOutcome, elementKnown, notInverted, offAxis};
 ghost use Rattle.mapping.specs.Element.{element};
-ghost use Rattle.point_questions.specs.Points.{interpolationAsked, strainAsked, stressAsked};
+ghost use Rattle.point_questions.specs.Points.{strainAsked, stressAsked};
 use definition::Reference;
 use definition::Structural2dFormulation;
 use definition::Verdict;
 
 // 2^-52: a radius up to it lies on the axis.
 const EPSILON: f64 = 2.220446049250313e-16;
-
-// Question 14 of point p: is its element's number in the mesh?
-fn element_question(p: usize, family: usize, elements: &[u32], element_index: usize) -> Verdict
-    ensures { λ r. ⌜ verdictOutcome r ≡ asked (elementKnown (record { family = family; nodes = []; elements = now (elements .entry) }) p «element_index» ∷ []) tt ⌝ }
-{
-    let count = elements.len() / elements::nodes_per_element(family);
-    asking::then(Verdict::Passed, element_index < count, 14, p)
-}
 
 // ---- one point
 
@@ -61,7 +53,7 @@ fn strain_questions_at(
     ensures { λ r. ⌜ (let m : Mesh = record { family = family; nodes = now («nodes_rz» .entry); elements = now (elements .entry) } in
         verdictOutcome r ≡ asked (elementKnown m p «element_index» ∷ notInverted (gathered m «element_index») p reference ∷ offAxis formulation (gathered m «element_index») p reference) tt) ⌝ }
 {
-    let v = element_question(p, family, elements, element_index);
+    let v = element_questions::element_question(p, family, elements, element_index);
     let mut xy = [0.0; 18];
     mesh::put_element_coords(family, nodes_rz, elements, element_index, &mut xy);
     let count = elements::nodes_per_element(family);
@@ -83,7 +75,7 @@ fn stress_questions_at(
     ensures { λ r. ⌜ (let m : Mesh = record { family = family; nodes = now («nodes_rz» .entry); elements = now (elements .entry) } in
         verdictOutcome r ≡ asked (elementKnown m p «element_index» ∷ ask 15 p (ltb material materials) ∷ notInverted (gathered m «element_index») p reference ∷ offAxis formulation (gathered m «element_index») p reference) tt) ⌝ }
 {
-    let v = element_question(p, family, elements, element_index);
+    let v = element_questions::element_question(p, family, elements, element_index);
     let v = asking::then(v, material < materials, 15, p);
     let mut xy = [0.0; 18];
     mesh::put_element_coords(family, nodes_rz, elements, element_index, &mut xy);
@@ -92,25 +84,6 @@ fn stress_questions_at(
 }
 
 // ---- one point after the other
-
-// Question 14 of each point.
-pub fn interpolation_point_questions(
-    family: usize,
-    elements: &[u32],
-    element_indices: &[usize],
-) -> Verdict
-    ensures { λ r. ⌜ verdictOutcome r ≡ asked (each (interpolationAsked (record { family = family; nodes = []; elements = now (elements .entry) }) (now («element_indices» .entry))) (length (now («element_indices» .entry)))) tt ⌝ }
-{
-    let mut p: usize = 0;
-    while p < element_indices.len() {
-        let v = element_question(p, family, elements, element_indices[p]);
-        if let Verdict::Refused { .. } = v {
-            return v;
-        }
-        p += 1;
-    }
-    Verdict::Passed
-}
 
 // Questions 14, 16 and 17 of each point.
 pub fn strain_point_questions(

@@ -1,7 +1,7 @@
 -- `element_question` meets its contract: the elements are counted as the definition counts them. Assumes nothing.
 use borrow.Author.Needs.{needs}
-use Rattle.point_questions.proofs.element_question.Statement.{statement}
-use Rattle.point_questions.proofs.element_question.Tie as tie
+use Rattle.element_questions.proofs.element_question.Statement.{statement}
+use Rattle.element_questions.proofs.element_question.Tie as tie
 
 returns : tie.Need-returns
 returns c = rw (c .before .nodes-per-element .ensures .0) at (c .then .ensures)

@@ -7,10 +7,10 @@ use borrow.Author.Needs.{needs}
 use lib.ListN.{length}
 use Rattle.definition.specs.Lists.{every}
 use Rattle.definition.specs.Questions.{Question, asked, verdictOutcome}
-use Rattle.point_questions.specs.Points.{interpolationAsked}
-use Rattle.point_questions.proofs.Asking.{Passed, passed-next, refused-here, passed-all}
-use Rattle.point_questions.proofs.interpolation_point_questions.Statement.{statement}
-use Rattle.point_questions.proofs.interpolation_point_questions.Tie as tie
+use Rattle.element_questions.specs.Points.{interpolationAsked}
+use Rattle.element_questions.proofs.Asking.{Passed, passed-next, refused-here, passed-all}
+use Rattle.element_questions.proofs.interpolation_point_questions.Statement.{statement}
+use Rattle.element_questions.proofs.interpolation_point_questions.Tie as tie
 
 abbrev Inv-loop : tie.InvT-loop
 Inv-loop family elements element-indices p₀ p = (p ≤ length element-indices) × Passed (interpolationAsked (record { family = family; nodes = []; elements = elements }) element-indices) p

@@ -1,0 +1,2 @@
+-- What holds of questions put to one point after the other.
+pub mod Asking
