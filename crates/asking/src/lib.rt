@@ -19,6 +19,16 @@ pub fn then(v: Verdict, holds: bool, question: u8, place: usize) -> Verdict
     }
 }
 
+// The first verdict, and after a pass the second.
+pub fn after(first: Verdict, second: Verdict) -> Verdict
+    ensures { λ r. ⌜ verdictOutcome r ≡ onward (verdictOutcome first) (verdictOutcome second) ⌝ }
+{
+    match first {
+        Verdict::Passed => second,
+        Verdict::Refused { .. } => first,
+    }
+}
+
 // Whether a list of len numbers is whole records of size numbers, at most 1,000,000 of them. With size 0 only the empty list is.
 pub fn whole(size: usize, len: usize) -> bool
     ensures { λ r. ⌜ r ≡ whole size len ⌝ }

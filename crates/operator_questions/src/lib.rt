@@ -16,16 +16,6 @@ use definition::Verdict;
 
 // ---- on the lists
 
-// The verdict so far, and after a pass the other.
-fn after(v: Verdict, w: Verdict) -> Verdict
-    ensures { λ r. ⌜ verdictOutcome r ≡ onward (verdictOutcome v) (verdictOutcome w) ⌝ }
-{
-    match v {
-        Verdict::Passed => w,
-        Verdict::Refused { .. } => v,
-    }
-}
-
 // Whether a list of `values` reference coordinates is whole pairs, and pairs and element numbers are at most 1,000,000 each.
 fn references_whole(values: usize, count: usize) -> bool
     ensures { λ r. ⌜ r ≡ whole 2 values && leb count 1000000 ⌝ }
@@ -65,7 +55,7 @@ fn number_questions(
         verdictOutcome r ≡ onward (verdictOutcome v) (asked (nodeNumbers m ++ numbersMatch (now («element_indices» .entry)) (now («reference_points» .entry)) ∷ []) tt)) ⌝ }
 {
     let w = questions::connectivity_question(family, nodes_rz, elements);
-    let v = after(v, w);
+    let v = asking::after(v, w);
     asking::then(
         v,
         element_indices.len() == reference_points.len() / 2,
