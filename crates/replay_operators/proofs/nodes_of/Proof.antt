@@ -1,0 +1,32 @@
+-- `nodes_of` is safe and ends: the list keeps its length, and the measure is how many places are left. Assumes nothing.
+use mathlib.Core.Path.{_≡_}
+use Prim.Native.Nat.{_-_}
+use borrow.Author.Needs.{needs}
+use lib.ListN.{length}
+use Rattle.replay_operators.proofs.nodes_of.Statement.{statement}
+use Rattle.replay_operators.proofs.nodes_of.Tie as tie
+
+abbrev Inv-loop : tie.InvT-loop
+Inv-loop case list nodes₀ at i₀ nodes i = 256 ≡ length nodes
+
+abbrev μ-loop : tie.MeasureT-loop
+μ-loop case list nodes₀ at i₀ nodes i = 256 - i
+
+pub nodes-of-spec : {M : Type 1} → statement M
+nodes-of-spec =
+    tie.close
+    (tie.spec
+    Inv-loop
+    μ-loop
+    (λ c κs. search needs)
+    (λ c. search needs)
+    (λ c. search needs)
+    (λ c. search needs)
+    (λ c κs. search needs)
+    (λ c. search needs)
+    (λ c. search needs)
+    (λ c. search needs)
+    (λ c. search needs)
+    (λ c. search needs)
+    (λ c. search needs)
+    (λ c. search needs))
