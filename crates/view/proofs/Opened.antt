@@ -15,7 +15,7 @@ use denote.Struct.Rest.{all-own, own-open}
 use Rattle.view.specs.declared.QuadMeshView2d.{QuadMeshView2d}
 use Rattle.view.proofs.QuadMeshView2d as T
 use Rattle.view.proofs.QuadMeshView2d.Laws as T′
-use Rattle.view.proofs.Known.{Known}
+use Rattle.walks.proofs.Known.{Known}
 
 abbrev pub view : (α : NamedLft) → Known (T.the-row α)
 view α = record { vals = LL.vals (T.the-type α) (T′.the-laws α); tells = LL.tells (T.the-type α) (T′.the-laws α); lawful = LL.lawful (T.the-type α) (T′.the-laws α) }

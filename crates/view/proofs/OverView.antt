@@ -28,10 +28,10 @@ use denote.Triple.End.{all, Fins, lastsOf}
 use denote.Triple.Clauses.{Ended, Clauses, Lasts, atExit, closing}
 use denote.Triple.Spec.{Meets, tripleOf}
 use Rattle.view.proofs.QuadMeshView2d as T
-use Rattle.view.proofs.Known.{Knowns, spells}
+use Rattle.walks.proofs.Known.{Knowns, spells}
 use Rattle.view.proofs.Opened.{view, opens}
-use Rattle.view.proofs.Straight.{Of, Passed, Straight, begun, called, returned, tyAt}
-use Rattle.view.proofs.Thin.{answered, ensured-through, thin-meets}
+use Rattle.walks.proofs.Straight.{Of, Passed, Straight, begun, called, returned, tyAt}
+use Rattle.walks.proofs.Thin.{answered, ensured-through, thin-meets}
 
 module _ (n : ℕ) (ok : Within n 0) (ss : List (Slot n)) where
   abbrev α : Lfts n → NamedLft

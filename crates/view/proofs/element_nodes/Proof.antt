@@ -30,10 +30,10 @@ use Rattle.view.proofs.element_nodes.Key.{name as #own}
 use Rattle.view.proofs.element_nodes as own
 use Rattle.view.proofs.element_nodes.Statement as stated
 use Rattle.view.proofs.element_nodes.Code as code
-use Rattle.view.proofs.Known.{Knowns, number}
+use Rattle.walks.proofs.Known.{Knowns, number}
 use Rattle.view.proofs.Opened.{view, opens-elements}
-use Rattle.view.proofs.Straight.{tyAt, takes, _⊹_, no-operand, calling, returning}
-use Rattle.view.proofs.Thin.{answered, ensured-through, thin-meets}
+use Rattle.walks.proofs.Straight.{tyAt, takes, _⊹_, no-operand, calling, returning}
+use Rattle.walks.proofs.Thin.{answered, ensured-through, thin-meets}
 
 abbrev α : Lfts 1 → NamedLft
 α κs = namedLft 1 0 tt κs

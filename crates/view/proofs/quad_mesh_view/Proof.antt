@@ -30,9 +30,9 @@ use Rattle.view.proofs.quad_mesh_view.Key.{name as #own}
 use Rattle.view.proofs.quad_mesh_view as own
 use Rattle.view.proofs.quad_mesh_view.Statement as stated
 use Rattle.view.proofs.quad_mesh_view.Code as code
-use Rattle.view.proofs.Known.{Knowns, shared}
-use Rattle.view.proofs.Straight.{_⊹_, no-operand, built, assigned, returned, returning}
-use Rattle.view.proofs.Thin.{spelled, straight-meets}
+use Rattle.walks.proofs.Known.{Knowns, shared}
+use Rattle.walks.proofs.Straight.{_⊹_, no-operand, built, assigned, returned, returning}
+use Rattle.walks.proofs.Thin.{spelled, straight-meets}
 
 abbrev ks : (κs : Lfts 1) → Knowns (typesAt (own.signature .params) κs)
 ks κs = (shared (named 0) (κs .0) f64, (shared (named 0) (κs .0) u32, tt))

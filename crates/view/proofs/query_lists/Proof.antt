@@ -48,9 +48,9 @@ use Rattle.view.proofs.query_lists.Key.{name as #own}
 use Rattle.view.proofs.query_lists as own
 use Rattle.view.proofs.query_lists.Statement as stated
 use Rattle.view.proofs.query_lists.Code as code
-use Rattle.view.proofs.Known.{Knowns, number, shared, lent}
-use Rattle.view.proofs.Straight.{Of, tyAt, lends, _⊹_, no-operand, called, returned, calling, returning}
-use Rattle.view.proofs.Thin.{spelled, answered, ensured-through, straight-meets}
+use Rattle.walks.proofs.Known.{Knowns, number, shared, lent}
+use Rattle.walks.proofs.Straight.{Of, tyAt, lends, _⊹_, no-operand, called, returned, calling, returning}
+use Rattle.walks.proofs.Thin.{spelled, answered, ensured-through, straight-meets}
 
 abbrev ks : (κs : Lfts 14) → Knowns (typesAt (own.signature .params) κs)
 ks κs = (

@@ -23,8 +23,8 @@ use denote.Triple.Statement.{Triple}
 use denote.Triple.Entry.{Args, Vals, Res, onEntry}
 use denote.Triple.Clauses.{Ended, Clauses, Lasts, atExit, lasts, ensured}
 use denote.Triple.Spec.{Spec, Meets, tripleOf}
-use Rattle.view.proofs.Known.{Knowns, spells, tellss, lawfuls}
-use Rattle.view.proofs.Straight.{Of, Passed, Asks, called, returned, Straight, begun, tyAt, meaning, runs-straight}
+use Rattle.walks.proofs.Known.{Knowns, spells, tellss, lawfuls}
+use Rattle.walks.proofs.Straight.{Of, Passed, Asks, called, returned, Straight, begun, tyAt, meaning, runs-straight}
 
 module _ {M : Type 1} (𝓤 : URA M) (H : Heap 𝓤) (A : Atoms 𝓤) (W : Given 𝓤 H A) where
   -- the result of a contract, and whatever is ensured of it
