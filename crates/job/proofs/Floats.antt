@@ -1,31 +1,14 @@
--- Bit patterns read as numbers, one after the other; and which patterns are NaN. Assumes nothing.
-use mathlib.Core.Path.{_≡_, refl, sym, ap, _∙_}
-use mathlib.Core.Bool.{true, not}
+-- Bit patterns read as numbers, one after the other. Assumes nothing.
+use mathlib.Core.Path.{_≡_, sym, ap, _∙_}
 use mathlib.Core.List.{List, [], _∷_, _++_, map, map-append}
-use Prim.Native.Nat.{ℕ, _+_, _%_, _≤_, _<_}
+use Prim.Native.Nat.{ℕ, _+_, _≤_, _<_}
 use native.Mathlib.Numerals.{add-one}
 use native.Mathlib.Omega.{arith}
-use borrow.Author.Tests.{lt-ltb, le-ltb}
-use lib.Dec.{T}
-use lib.Ieee.{Float, nan, inf, fin, isNan, binary64, ofBits, nanBits}
-use lib.Ieee.Bits.{nanBits-is, nanBits-above}
+use lib.Ieee.{Float, binary64, ofBits}
 use lib.ListN.{length, getD, set, take, length-map}
 use lib.Seq.{take-suc, length-take-le}
 use Rattle.definition.specs.Lists.{over}
 use Rattle.definition.proofs.Lists.{over-take, over-next}
-
-nan-only : (x : Float) → isNan x ≡ true → nan ≡ x
-unfolding isNan
-nan-only nan e = refl
-nan-only (inf s) e = cc
-nan-only (fin s m x) e = cc
-
--- above the pattern of infinity, without the sign
-pub nan-pattern : (b : ℕ) → 9218868437227405312 < b % 9223372036854775808 → nan ≡ ofBits binary64 b
-nan-pattern b h = nan-only (ofBits binary64 b) (sym (nanBits-is binary64 b) ∙ nanBits-above binary64 b ∙ lt-ltb _ _ h)
-
-pub number-pattern : (b : ℕ) → b % 9223372036854775808 ≤ 9218868437227405312 → T (not (nanBits binary64 b))
-number-pattern b h = rw (nanBits-above binary64 b ∙ le-ltb _ _ h) tt
 
 -- one number more
 pub floats-next : (bits : List ℕ) (i : ℕ) (old : List Float) → i < length bits → length bits ≤ length old →

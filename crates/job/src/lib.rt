@@ -15,17 +15,6 @@ use records::ReadAnswer;
 
 // ---- floats
 
-// The number of a bit pattern. Every NaN pattern is the one NaN.
-fn float_of(bits: u64) -> f64
-    ensures { λ r. ⌜ r ≡ ofBits binary64 bits ⌝ }
-{
-    if 0x7ff0_0000_0000_0000 < bits % 0x8000_0000_0000_0000 {
-        0.0 / 0.0
-    } else {
-        f64::from_bits(bits)
-    }
-}
-
 // The numbers of a list of bit patterns, in the first places of `floats`.
 fn read_floats(bits: &[u64], floats: &mut [f64])
     requires { ⌜ length (now bits) ≤ length (now floats) ⌝ }
@@ -33,7 +22,7 @@ fn read_floats(bits: &[u64], floats: &mut [f64])
 {
     let mut i: usize = 0;
     while i < bits.len() {
-        floats[i] = float_of(bits[i]);
+        floats[i] = floats::float_of(bits[i]);
         i += 1;
     }
 }

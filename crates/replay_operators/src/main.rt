@@ -60,14 +60,9 @@ fn number_at(case: &[u8; 65536], at: usize, size: usize) -> u64 {
     number
 }
 
-// The float of eight bytes from a place on. Every NaN pattern is the one NaN.
+// The float of eight bytes from a place on.
 fn float_at(case: &[u8; 65536], at: usize) -> f64 {
-    let bits = number_at(case, at, 8);
-    if 0x7ff0_0000_0000_0000 < bits % 0x8000_0000_0000_0000 {
-        0.0 / 0.0
-    } else {
-        f64::from_bits(bits)
-    }
+    floats::float_of(number_at(case, at, 8))
 }
 
 // The lesser of two numbers.
