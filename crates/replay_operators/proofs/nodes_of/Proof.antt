@@ -18,11 +18,11 @@ nodes-of-spec =
     (tie.spec
     Inv-loop
     μ-loop
-    (λ c κs. search needs)
+    (λ c κs. tt)
     (λ c. search needs)
     (λ c. search needs)
     (λ c. search needs)
-    (λ c κs. search needs)
+    (λ c κs. tt)
     (λ c. search needs)
     (λ c. search needs)
     (λ c. search needs)

@@ -18,8 +18,8 @@ print-float-spec =
     tie.close
     (tie.spec
     (λ c. search needs)
-    (λ c κs. search needs)
+    (λ c κs. tt)
     (λ c. rw (not-nan _ (c .if1 .left)) tt)
-    (λ c κs. search needs)
+    (λ c κs. tt)
     (λ c. search needs)
     (λ c. search needs))
