@@ -11,8 +11,11 @@ const VARIABLE: &str = "SOBRIZENTA_ARCHIVE";
 /// The repository, seen from this folder.
 const ROOT: &str = "../..";
 
-/// Where the toolchain puts the archive, seen from the repository.
-const MADE: &str = "target/staticlib/libexports.a";
+/// Proves the library and makes the archive, seen from the repository.
+const MAKER: &str = "bindings/archive";
+
+/// Where it puts the archive, seen from the repository.
+const MADE: &str = "target/staticlib/libsobrizenta.a";
 
 fn main() {
     println!("cargo::rerun-if-changed=build.rs");
@@ -27,16 +30,15 @@ fn given(archive: PathBuf) -> PathBuf {
 
 fn made() -> PathBuf {
     let root = Path::new(ROOT);
-    for source in ["crates", "crates.txt"] {
+    for source in ["crates", "crates.txt", MAKER] {
         println!("cargo::rerun-if-changed={}", root.join(source).display());
     }
-    let status = Command::new("rt").args(["staticlib", "exports"]).current_dir(root).status();
-    let status = status.unwrap_or_else(|error| {
-        panic!(
-            "rt, the command of the Rattle toolchain: {error}; or set {VARIABLE} to an archive already built"
-        )
-    });
-    assert!(status.success(), "rt staticlib exports: {status}");
+    let status = Command::new(root.join(MAKER)).status();
+    let status = status.unwrap_or_else(|error| panic!("{MAKER}: {error}"));
+    assert!(
+        status.success(),
+        "{MAKER}: {status}; it needs rt, the command of the Rattle toolchain; or set {VARIABLE} to an archive already built"
+    );
     root.join(MADE)
 }
 

@@ -6,12 +6,13 @@ use definition::GatheredElement;
 use definition::JacobianMatrix;
 use definition::Point;
 use definition::Reference;
+use mapping::Frame;
 use places::ElementBest;
 ghost use mathlib.Core.Path.{_≡_};
 ghost use mathlib.Core.Bool.{true, false};
 ghost use lib.ListN.{getD};
 ghost use Rattle.definition.specs.Binary64.{plus0};
-ghost use Rattle.definition.specs.Mapping.{pointAt};
+ghost use Rattle.definition.specs.Mapping.{pointAt, jacobianAt};
 ghost use Rattle.definition.specs.Search.{hessianDet, nextReference, walked, placed, reference, elementStep, elementSeeds, elementBest, closestReferencePoint};
 ghost use Rattle.mapping.specs.Element.{element};
 ghost use Rattle.places.specs.Places.{elementPlace, ofElement};
@@ -84,6 +85,17 @@ fn next_reference(j: JacobianMatrix, det: f64, u: f64, v: f64, r: Reference) -> 
     Reference { xi, eta }
 }
 
+// `frame_at` once more, which the face search calls. So `frame9` has two callers and the compiler calls it, and it puts the frame of family 4 in line in both searches.
+fn frame_of(count: usize, xy: &[f64; 18], r: Reference) -> Frame
+    ensures { λ f. ⌜ (f .point ≡ pointAt (element count (now (xy .entry))) r) × (f .jacobian ≡ jacobianAt (element count (now (xy .entry))) r) ⌝ }
+{
+    if count == 9 {
+        mapping::frame9(xy, r.xi, r.eta)
+    } else {
+        mapping::frame4(xy, r.xi, r.eta)
+    }
+}
+
 // What one step from a reference comes to: the reference after it, and whether the seed's steps end there.
 struct ElementStep {
     next: Reference,
@@ -93,7 +105,7 @@ struct ElementStep {
 fn element_step(count: usize, xy: &[f64; 18], target: Point, r: Reference) -> ElementStep
     ensures { λ s. ⌜ Stepped (elementStep (element count (now (xy .entry))) target) r (s .next) (s .ended) ⌝ }
 {
-    let f = steps::frame_of(count, xy, r);
+    let f = frame_of(count, xy, r);
     let det = hessian_det(f.jacobian);
     if steps::within(det, SINGULAR) {
         return ElementStep {

@@ -1,12 +1,10 @@
-// Reads operator cases from standard input, each after its length in four bytes, the least first, and prints what the three operators answer to them.
+// Reads operator cases from standard input, each after its length in four bytes, the least first, and prints what the three operators of the C interface answer to them.
 // A case: the operator, the family, the formulation and whether pairs are given, a byte each; the thickness in eight bytes; ten counts in two bytes each,
 // of the seven lists given and of the three lists lent; then the seven lists, eight bytes a float and four bytes an index. The least byte comes first.
 // The answer: its line; a line for each triplet; and whether every place of the lent lists past the triplets is as it was lent.
 ghost use mathlib.Core.Path.{_≡_};
 ghost use Prim.Native.Nat.{_≤_};
 ghost use lib.ListN.{length};
-use definition::OperatorAnswer;
-use definition::Structural2dFormulation;
 use libc::STDIN_FILENO;
 use libc::STDOUT_FILENO;
 use numbers::OperatorNumbers;
@@ -111,9 +109,13 @@ fn family_of(case: &[u8; 65536]) -> usize {
     number_at(case, 1, 1) as usize
 }
 
-// Which strains the case means.
-fn formulation_of(case: &[u8; 65536]) -> Structural2dFormulation {
-    numbers::formulation_of(number_at(case, 2, 1) as usize, float_at(case, 4))
+// Which strains the case means, in the number of the C interface.
+fn formulation_of(case: &[u8; 65536]) -> usize {
+    number_at(case, 2, 1) as usize
+}
+
+fn thickness_of(case: &[u8; 65536]) -> f64 {
+    float_at(case, 4)
 }
 
 // ---- the lists of a case, which have at most 256 numbers. What stands past a list's numbers means nothing.
@@ -236,14 +238,13 @@ fn print_kept(kept: bool) {
 
 // Prints the whole text of an answer.
 fn print_outcome(
-    answer: OperatorAnswer,
+    answer: OperatorNumbers,
     rows: [usize; 1152],
     columns: [usize; 1152],
     values: [f64; 1152],
 ) {
-    let numbers = numbers::operator_numbers(answer);
-    print_answer(numbers);
-    print_kept(print_places(numbers.triplets, rows, columns, values));
+    print_answer(answer);
+    print_kept(print_places(answer.triplets, rows, columns, values));
 }
 
 // ---- a case
@@ -258,7 +259,7 @@ fn answer_interpolation<'a>(
     let mut rows = [UNTOUCHED; 1152];
     let mut columns = [UNTOUCHED; 1152];
     let mut values = [UNTOUCHED_VALUE; 1152];
-    let answer = interpolation::quad_mesh_interpolation_operator(
+    let answer = operator_exports::sobrizenta_interpolation_operator(
         family_of(case),
         nodes_rz,
         elements,
@@ -281,13 +282,14 @@ fn answer_strain<'a>(
     let mut rows = [UNTOUCHED; 1152];
     let mut columns = [UNTOUCHED; 1152];
     let mut values = [UNTOUCHED_VALUE; 1152];
-    let answer = strain::quad_mesh_strain_operator(
+    let answer = operator_exports::sobrizenta_strain_operator(
         family_of(case),
         nodes_rz,
         elements,
         element_indices,
         reference_points,
         formulation_of(case),
+        thickness_of(case),
         &mut rows[..count_of(case, ROWS, 1152)],
         &mut columns[..count_of(case, COLUMNS, 1152)],
         &mut values[..count_of(case, VALUES, 1152)],
@@ -308,16 +310,17 @@ fn answer_stress<'a>(
     let mut rows = [UNTOUCHED; 1152];
     let mut columns = [UNTOUCHED; 1152];
     let mut values = [UNTOUCHED_VALUE; 1152];
-    let answer = stress::quad_mesh_stress_operator(
+    let answer = operator_exports::sobrizenta_stress_operator(
         family_of(case),
         nodes_rz,
         elements,
         element_indices,
         reference_points,
         formulation_of(case),
+        thickness_of(case),
         material_ids,
         material_table,
-        number_at(case, 3, 1) != 0,
+        number_at(case, 3, 1) as usize,
         pairs,
         &mut rows[..count_of(case, ROWS, 1152)],
         &mut columns[..count_of(case, COLUMNS, 1152)],

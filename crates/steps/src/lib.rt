@@ -1,14 +1,13 @@
-// What the element search and the face search share: how far a step may go, when two places are one, when a place is taken, and the point and the frame at a reference. The laws of steps, and of the best after each seed, stand in its proofs.
+// What the element search and the face search share: how far a step may go, when two places are one, when a place is taken, and the point at a reference. The laws of steps, and of the best after each seed, stand in its proofs.
 // It knows the definition and an element's map; nothing of what a seed or a step is in either search.
 
 use definition::Point;
 use definition::Reference;
-use mapping::Frame;
 ghost use mathlib.Core.Path.{_≡_};
 ghost use mathlib.Core.Bool.{true, _||_};
 ghost use lib.Ieee.{lt, le};
 ghost use Rattle.definition.specs.Binary64.{clampOf, magnitude};
-ghost use Rattle.definition.specs.Mapping.{pointAt, jacobianAt};
+ghost use Rattle.definition.specs.Mapping.{pointAt};
 ghost use Rattle.mapping.specs.Element.{element};
 ghost use Rattle.steps.specs.Steps.{oneNumber};
 
@@ -57,16 +56,5 @@ pub fn point_of(count: usize, xy: &[f64; 18], r: Reference) -> Point
         mapping::point_at(4, xy, r)
     } else {
         mapping::point_at(count, xy, r)
-    }
-}
-
-// `frame_at`, with the families apart: the compiler puts that of family 4 in line and calls that of family 9.
-pub fn frame_of(count: usize, xy: &[f64; 18], r: Reference) -> Frame
-    ensures { λ f. ⌜ (f .point ≡ pointAt (element count (now (xy .entry))) r) × (f .jacobian ≡ jacobianAt (element count (now (xy .entry))) r) ⌝ }
-{
-    if count == 9 {
-        mapping::frame9(xy, r.xi, r.eta)
-    } else {
-        mapping::frame4(xy, r.xi, r.eta)
     }
 }

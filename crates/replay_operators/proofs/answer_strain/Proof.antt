@@ -13,6 +13,7 @@ answer-strain-spec =
     (λ c κs. tt)
     (λ c κs. tt)
     (λ c κs. tt)
+    (λ c κs. tt)
     (λ c. search needs)
     (λ c. sym (length-take-le _ _ (omega arith)))
     (λ c κs. tt)

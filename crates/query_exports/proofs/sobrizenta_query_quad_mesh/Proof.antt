@@ -1,7 +1,7 @@
 -- `sobrizenta_query_quad_mesh` meets its contract: the call under it keeps its promise, and its answer is turned into numbers. Assumes nothing.
-use Rattle.exports.proofs.Kept.{query-kept}
-use Rattle.exports.proofs.sobrizenta_query_quad_mesh.Statement.{statement}
-use Rattle.exports.proofs.sobrizenta_query_quad_mesh.Tie as tie
+use Rattle.query_exports.proofs.Kept.{query-kept}
+use Rattle.query_exports.proofs.sobrizenta_query_quad_mesh.Statement.{statement}
+use Rattle.query_exports.proofs.sobrizenta_query_quad_mesh.Tie as tie
 
 pub sobrizenta-query-quad-mesh-spec : {M : Type 1} → statement M
 sobrizenta-query-quad-mesh-spec =

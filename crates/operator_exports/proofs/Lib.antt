@@ -1,0 +1,2 @@
+-- The law that the proofs of the exported operators cite.
+mod Kept
