@@ -12,7 +12,7 @@ use definition::Verdict;
 pub fn element_question(p: usize, family: usize, elements: &[u32], element_index: usize) -> Verdict
     ensures { λ r. ⌜ verdictOutcome r ≡ asked (elementKnown (record { family = family; nodes = []; elements = now (elements .entry) }) p «element_index» ∷ []) tt ⌝ }
 {
-    let count = elements.len() / elements::nodes_per_element(family);
+    let count = elements.len() / families::nodes_per_element(family);
     asking::then(Verdict::Passed, element_index < count, 14, p)
 }
 

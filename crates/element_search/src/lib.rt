@@ -120,7 +120,7 @@ fn element_step(count: usize, xy: &[f64; 18], target: Point, r: Reference) -> El
         f.point.y - target.y,
         r,
     );
-    let length = root::squared_distance(r.xi, r.eta, next.xi, next.eta);
+    let length = distances::squared_distance(r.xi, r.eta, next.xi, next.eta);
     ElementStep {
         next,
         ended: length <= SHORT_SQUARE,
@@ -179,7 +179,7 @@ fn element_place(count: usize, xy: &[f64; 18], target: Point, r: Reference) -> E
     ensures { λ b. ⌜ b ≡ elementPlace (placed (pointAt (element count (now (xy .entry)))) target r) ⌝ }
 {
     let point = steps::point_of(count, xy, r);
-    let square = root::squared_distance(point.x, point.y, target.x, target.y);
+    let square = distances::squared_distance(point.x, point.y, target.x, target.y);
     ElementBest {
         reference: r,
         point,

@@ -42,7 +42,7 @@ struct FaceStep {
 fn face_step(count: usize, xy: &[f64; 18], local_face: u8, target: Point, s: f64) -> FaceStep
     ensures { λ n. ⌜ Stepped (faceStep (element count (now (xy .entry))) «local_face» target) s (n .next) (n .ended) ⌝ }
 {
-    let f = elements::face_reference(local_face, s);
+    let f = faces::face_reference(local_face, s);
     let g = mapping::frame_at(
         count,
         xy,
@@ -118,7 +118,7 @@ fn face_walk(
 fn face_place(count: usize, xy: &[f64; 18], local_face: u8, target: Point, s: f64) -> FaceBest
     ensures { λ b. ⌜ b ≡ facePlace (placed (facePoint (element count (now (xy .entry))) «local_face») target s) ⌝ }
 {
-    let f = elements::face_reference(local_face, s);
+    let f = faces::face_reference(local_face, s);
     let point = steps::point_of(
         count,
         xy,
@@ -127,7 +127,7 @@ fn face_place(count: usize, xy: &[f64; 18], local_face: u8, target: Point, s: f6
             eta: f.eta,
         },
     );
-    let square = root::squared_distance(point.x, point.y, target.x, target.y);
+    let square = distances::squared_distance(point.x, point.y, target.x, target.y);
     FaceBest { s, point, square }
 }
 

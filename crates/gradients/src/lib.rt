@@ -32,7 +32,7 @@ pub fn inv_j(jac: JacobianMatrix) -> InverseJacobian
 pub fn grad_phys(family: usize, grad_reference: &[f64; 18], inv_jac: InverseJacobian) -> [f64; 18]
     ensures { λ r. ⌜ r ≡ gradPhys family (now («grad_reference» .entry)) «inv_jac» ⌝ }
 {
-    let count = elements::nodes_per_element(family);
+    let count = families::nodes_per_element(family);
     let InverseJacobian {
         xix,
         xiy,

@@ -242,7 +242,7 @@ pub fn answer_point(
     ensures { λ r. ⌜ r ≡ pointAnswer (record { family = family; nodes = now («nodes_rz» .entry); elements = now (elements .entry) }) «max_iterations» target ⌝ }
 {
     let node = nodes::nearest_node_projection(nodes_rz, target);
-    let count = elements.len() / elements::nodes_per_element(family);
+    let count = elements.len() / families::nodes_per_element(family);
     let first = mesh::element_coords(family, nodes_rz, elements, 0);
     let mut best = first_nearest(first, target, max_iterations);
     if count == 0 {

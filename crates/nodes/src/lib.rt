@@ -11,7 +11,7 @@ fn node_square(nodes_rz: &[f64], node_index: usize, target: Point) -> f64
     ensures { λ r. ⌜ r ≡ nodeSquare (nodes (now («nodes_rz» .entry))) 0 target «node_index» ⌝ }
 {
     let p = lists::pair_at(nodes_rz, node_index);
-    root::squared_distance(p.x, p.y, target.x, target.y)
+    distances::squared_distance(p.x, p.y, target.x, target.y)
 }
 
 // The first node of the least squared distance, 0 where there is none.

@@ -216,7 +216,7 @@ fn material_questions(
         element_indices,
         reference_points,
     );
-    let count = elements.len() / elements::nodes_per_element(family);
+    let count = elements.len() / families::nodes_per_element(family);
     let v = asking::then(v, material_ids.len() == count, 12, 0);
     asking::then(v, pairs_match(pairs_given, pairs.len(), count), 13, 0)
 }

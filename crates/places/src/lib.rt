@@ -39,7 +39,7 @@ fn element_place(count: usize, xy: &[f64; 18], target: Point, r: Reference) -> E
     ensures { λ b. ⌜ b ≡ elementPlace (placed (pointAt (element count (now (xy .entry)))) target r) ⌝ }
 {
     let point = point_of(count, xy, r);
-    let square = root::squared_distance(point.x, point.y, target.x, target.y);
+    let square = distances::squared_distance(point.x, point.y, target.x, target.y);
     ElementBest {
         reference: r,
         point,

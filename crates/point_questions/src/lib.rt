@@ -56,7 +56,7 @@ fn strain_questions_at(
     let v = element_questions::element_question(p, family, elements, element_index);
     let mut xy = [0.0; 18];
     mesh::put_element_coords(family, nodes_rz, elements, element_index, &mut xy);
-    let count = elements::nodes_per_element(family);
+    let count = families::nodes_per_element(family);
     place_questions(v, p, formulation, count, &xy, reference)
 }
 
@@ -79,7 +79,7 @@ fn stress_questions_at(
     let v = asking::then(v, material < materials, 15, p);
     let mut xy = [0.0; 18];
     mesh::put_element_coords(family, nodes_rz, elements, element_index, &mut xy);
-    let count = elements::nodes_per_element(family);
+    let count = families::nodes_per_element(family);
     place_questions(v, p, formulation, count, &xy, reference)
 }
 

@@ -55,7 +55,7 @@ pub fn put_stress_values(
 )
     ensures { λ r. ⌜ now (out .exit) ≡ over (timesOf (now (material .entry)) (now (strain .entry)) (2 * nodesOf family)) (now (out .entry)) ⌝ }
 {
-    let columns = 2 * elements::nodes_per_element(family);
+    let columns = 2 * families::nodes_per_element(family);
     put_row(material, strain, columns, 0, out);
     put_row(material, strain, columns, 1, out);
     put_row(material, strain, columns, 2, out);

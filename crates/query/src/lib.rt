@@ -32,7 +32,7 @@ fn query_answer(
 {
     match v {
         Verdict::Passed => {
-            let repeated = mesh::repeated_elements(family, elements);
+            let repeated = repeated::repeated_elements(family, elements);
             QueryAnswer::Accepted {
                 points: count,
                 repeated,

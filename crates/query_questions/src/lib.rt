@@ -16,7 +16,7 @@ fn content_questions(family: usize, nodes_rz: &[f64], elements: &[u32]) -> Verdi
     v = asking::then(v, 0 < nodes_rz.len() / 2, 9, 0);
     asking::then(
         v,
-        0 < elements.len() / elements::nodes_per_element(family),
+        0 < elements.len() / families::nodes_per_element(family),
         10,
         0,
     )

@@ -13,11 +13,11 @@ pub fn mesh_questions(family: usize, nodes_rz: &[f64], elements: &[u32]) -> Verd
     ensures { λ r. ⌜ (let m : Mesh = record { family = family; nodes = now («nodes_rz» .entry); elements = now (elements .entry) } in
         verdictOutcome r ≡ asked (familyKnown m ∷ nodesWhole m ∷ elementsWhole m ∷ []) tt) ⌝ }
 {
-    let mut v = asking::then(Verdict::Passed, elements::is_family(family), 1, 0);
+    let mut v = asking::then(Verdict::Passed, families::is_family(family), 1, 0);
     v = asking::then(v, asking::whole(2, nodes_rz.len()), 2, 0);
     asking::then(
         v,
-        asking::whole(elements::nodes_per_element(family), elements.len()),
+        asking::whole(families::nodes_per_element(family), elements.len()),
         3,
         0,
     )
@@ -37,7 +37,7 @@ fn first_bad(family: usize, nodes_rz: &[f64], elements: &[u32]) -> usize
     ensures { λ r. ⌜ (let m : Mesh = record { family = family; nodes = now («nodes_rz» .entry); elements = now (elements .entry) } in
         asked (ask 8 r (leb (elementCount m) r) ∷ []) (tt {0}) ≡ asked (nodeNumbers m) tt) ⌝ }
 {
-    let f = elements::nodes_per_element(family);
+    let f = families::nodes_per_element(family);
     let node_count = nodes_rz.len() / 2;
     let count = elements.len() / f;
     let mut element_index: usize = 0;
@@ -62,7 +62,7 @@ pub fn connectivity_question(family: usize, nodes_rz: &[f64], elements: &[u32]) 
     let bad = first_bad(family, nodes_rz, elements);
     asking::then(
         Verdict::Passed,
-        elements.len() / elements::nodes_per_element(family) <= bad,
+        elements.len() / families::nodes_per_element(family) <= bad,
         8,
         bad,
     )

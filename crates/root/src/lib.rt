@@ -1,23 +1,13 @@
-// Distances: the squared one of two points, and the correctly rounded square root of every f64, `rootOf` of the written definition. This crate may know the definition and nothing else.
+// The correctly rounded square root of every f64, `rootOf` of the written definition. It knows the definition alone.
 // A guess by floats is verified by integer squares. Where it fails, which the values below 2^-1022 make it do, the root is worked out digit by digit:
 // so the result rests on integers alone, and of the guess nothing is promised.
 ghost use mathlib.Core.Path.{_≡_};
 ghost use mathlib.Core.Bool.{true};
 ghost use Prim.Native.Nat.{_+_, _*_, _^_, _≤_, _<_};
 ghost use lib.Ieee.{binary64, ofBits};
-ghost use Rattle.definition.specs.Binary64.{squaredDistance};
 ghost use Rattle.definition.specs.Root.{inUnits, rootUnits, rootOf};
 ghost use Rattle.definition.proofs.Root.Isqrt.{Whole};
 ghost use Rattle.definition.proofs.Root.Scaled.{Scaled};
-
-// The squared distance of the points (ax, ay) and (bx, by).
-pub fn squared_distance(ax: f64, ay: f64, bx: f64, by: f64) -> f64
-    ensures { λ r. ⌜ r ≡ squaredDistance ax ay bx by ⌝ }
-{
-    let dx = ax - bx;
-    let dy = ay - by;
-    dx * dx + dy * dy
-}
 
 // The root of x.
 pub fn root(x: f64) -> f64

@@ -96,7 +96,7 @@ fn put_stress(
             pairs,
             &mut stress,
         );
-        at = triplets::put_component_rows(
+        at = triplet_rows::put_component_rows(
             p as u32,
             family,
             nodes,
@@ -134,7 +134,7 @@ pub fn quad_mesh_stress_operator<'a>(
         (record { rows = now (rows .exit); columns = now (columns .exit); values = now (values .exit) }) ⌝ }
 {
     let count = element_indices.len();
-    let per_point = 8 * elements::nodes_per_element(family);
+    let per_point = 8 * families::nodes_per_element(family);
     let room = room::holds_triplets(count, per_point, rows.len(), columns.len(), values.len());
     let v = operator_questions::stress_questions(
         family,

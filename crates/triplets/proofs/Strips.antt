@@ -2,18 +2,15 @@
 use mathlib.Core.Path.{_≡_, refl, ap, _∙_}
 use mathlib.Core.Bool.{true, false, cond, _&&_}
 use mathlib.Core.List.{List, [], _∷_, _++_, map, map-append, append-nil}
-use Prim.Native.Nat.{ℕ, _+_, _*_, _^_, _≤_, _<_}
-use native.Mathlib.Nat.{one-mul, add-zero, zero-add, mul-le-mul-right}
+use Prim.Native.Nat.{ℕ, _+_, _≤_, _<_}
 use native.Mathlib.Omega.{arith}
 use lib.Dec.{ltb}
-use lib.ListN.{length, getD, set, length-append, length-map, length-set}
+use lib.ListN.{length, set, length-append, length-map, length-set}
 use lib.Seq.{append-snoc}
 use borrow.Author.Tests.{lt-ltb}
-use lib.Ieee.{Float, nan}
 use Rattle.definition.specs.Lists.{each, over}
-use Rattle.definition.specs.Elements.{nodesOf}
 use Rattle.definition.specs.Operators.{TripletLists, tripletsOver}
-use Rattle.definition.specs.Rows.{Triplet, kept, pointTriplets}
+use Rattle.definition.specs.Rows.{Triplet}
 use Rattle.definition.proofs.Lists.{each-more, over-length, over-next}
 use Rattle.triplets.specs.Strip.{Strip, strip, stored, written}
 
@@ -42,19 +39,6 @@ pub written-keeps : (s : Strip) (ts : List Triplet) {r : Strip} → r ≡ writte
 unfolding written
 written-keeps s [] e = ap lengths e
 written-keeps s (t ∷ ts) e = written-keeps (stored s t) ts e ∙ stored-keeps s t
-
--- ---- numbers
-
--- a column's number is far below the largest
-pub column-fits : {c node : ℕ} → c ≤ 2 → node < 2 ^ 32 → c * node < 2 ^ 33
-column-fits {c} {node} h l = omega (arith, mul-le-mul-right node h)
-
--- ---- the row of one component
-
-pub shape-row : (p family : ℕ) (nodes : List ℕ) (shape : List Float) {count : ℕ} → count ≡ nodesOf family →
-    each (λ j. each (λ d. kept p (1 * getD nodes j 0 + d) (getD shape (0 + 1 * j + d) nan)) 1) count ≡ pointTriplets 1 1 (nodesOf family) (λ j. getD nodes j 0) (λ i j d. getD shape j nan) p
-unfolding pointTriplets each
-shape-row p family nodes shape e = simp (e, one-mul, add-zero, zero-add)
 
 -- ---- triplets that have room
 
