@@ -6,7 +6,7 @@ use definition::GatheredElement;
 use definition::JacobianMatrix;
 use definition::Point;
 use definition::Reference;
-use mapping::Frame;
+use frames::Frame;
 use places::ElementBest;
 ghost use mathlib.Core.Path.{_≡_};
 ghost use mathlib.Core.Bool.{true, false};
@@ -90,9 +90,9 @@ fn frame_of(count: usize, xy: &[f64; 18], r: Reference) -> Frame
     ensures { λ f. ⌜ (f .point ≡ pointAt (element count (now (xy .entry))) r) × (f .jacobian ≡ jacobianAt (element count (now (xy .entry))) r) ⌝ }
 {
     if count == 9 {
-        mapping::frame9(xy, r.xi, r.eta)
+        frames::frame9(xy, r.xi, r.eta)
     } else {
-        mapping::frame4(xy, r.xi, r.eta)
+        frames::frame4(xy, r.xi, r.eta)
     }
 }
 

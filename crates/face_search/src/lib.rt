@@ -43,7 +43,7 @@ fn face_step(count: usize, xy: &[f64; 18], local_face: u8, target: Point, s: f64
     ensures { λ n. ⌜ Stepped (faceStep (element count (now (xy .entry))) «local_face» target) s (n .next) (n .ended) ⌝ }
 {
     let f = faces::face_reference(local_face, s);
-    let g = mapping::frame_at(
+    let g = frames::frame_at(
         count,
         xy,
         Reference {

@@ -1,14 +1,13 @@
--- Every family but 9 counts as 4: what holds of the point and the Jacobian of the one holds of the other's. Assumes nothing.
+-- Every family but 9 counts as 4: what holds of the point of the one holds of the other's. Assumes nothing.
 use mathlib.Core.Path.{_≡_}
 use mathlib.Core.List.{List}
 use Prim.Native.Nat.{ℕ}
 use borrow.Author.Tests.{ne-eqb}
 use lib.Ieee.{Float}
-use Rattle.definition.specs.Elements.{nodesOf, shapeOf, gradRefOf}
-use Rattle.definition.specs.Mapping.{pointAt, jacobianAt}
+use Rattle.definition.specs.Elements.{nodesOf, shapeOf}
+use Rattle.definition.specs.Mapping.{pointAt}
 use Rattle.definition.specs.declared.Point.{Point}
 use Rattle.definition.specs.declared.Reference.{Reference}
-use Rattle.definition.specs.declared.JacobianMatrix.{JacobianMatrix}
 use Rattle.mapping.specs.Element.{element}
 
 module _ (family : ℕ) (xy : List Float) (r : Reference) where
@@ -18,10 +17,3 @@ module _ (family : ℕ) (xy : List Float) (r : Reference) where
   pub point-four : {p : Point} → (family ≡ 9 → ⊥) → p ≡ pointAt (element 4 xy) r → p ≡ pointAt (element family xy) r
   unfolding pointAt shapeOf nodesOf
   point-four h e = rw (ne-eqb family 9 h) e
-
-  pub frame-nine : {p : Point} {j : JacobianMatrix} → family ≡ 9 → (p ≡ pointAt (element 9 xy) r) × (j ≡ jacobianAt (element 9 xy) r) → (p ≡ pointAt (element family xy) r) × (j ≡ jacobianAt (element family xy) r)
-  frame-nine h e = rw h e
-
-  pub frame-four : {p : Point} {j : JacobianMatrix} → (family ≡ 9 → ⊥) → (p ≡ pointAt (element 4 xy) r) × (j ≡ jacobianAt (element 4 xy) r) → (p ≡ pointAt (element family xy) r) × (j ≡ jacobianAt (element family xy) r)
-  unfolding pointAt jacobianAt shapeOf gradRefOf nodesOf
-  frame-four h e = rw (ne-eqb family 9 h) e

@@ -8,7 +8,7 @@ use definition::Reference;
 ghost use mathlib.Core.Path.{_≡_};
 ghost use Prim.Native.Nat.{_≤_, _<_};
 ghost use Rattle.definition.specs.Elements.{nodesOf};
-ghost use Rattle.definition.specs.Mapping.{first, second, mapPoint, jacobianOf, pointAt, jacobianAt};
+ghost use Rattle.definition.specs.Mapping.{first, second, mapPoint, jacobianOf, pointAt};
 ghost use Rattle.mapping.specs.Element.{element};
 
 // The two numbers of a node: x and y, or the gradients by xi and by eta.
@@ -122,49 +122,5 @@ pub fn point_at(family: usize, coords: &[f64; 18], reference: Reference) -> Poin
         point9(coords, xi, eta)
     } else {
         point4(coords, xi, eta)
-    }
-}
-
-// What one step of a search needs: the point of an element at a reference, and the Jacobian there.
-pub struct Frame {
-    pub point: Point,
-    pub jacobian: JacobianMatrix,
-}
-
-// The frame of family 4 alone. N and the gradients are made side by side: the compiler then makes the polynomials that both have but once.
-pub fn frame4(coords: &[f64; 18], xi: f64, eta: f64) -> Frame
-    ensures { λ r. ⌜ r .point ≡ pointAt (element 4 (now (coords .entry))) (record { xi = xi; eta = eta }) ⌝ }
-    ensures { λ r. ⌜ r .jacobian ≡ jacobianAt (element 4 (now (coords .entry))) (record { xi = xi; eta = eta }) ⌝ }
-{
-    let n = elements::shape(4, xi, eta);
-    let grad = elements::grad_ref(4, xi, eta);
-    Frame {
-        point: point_sum(4, coords, &n),
-        jacobian: jacobian_sum(4, coords, &grad),
-    }
-}
-
-// The frame of family 9 alone.
-pub fn frame9(coords: &[f64; 18], xi: f64, eta: f64) -> Frame
-    ensures { λ r. ⌜ r .point ≡ pointAt (element 9 (now (coords .entry))) (record { xi = xi; eta = eta }) ⌝ }
-    ensures { λ r. ⌜ r .jacobian ≡ jacobianAt (element 9 (now (coords .entry))) (record { xi = xi; eta = eta }) ⌝ }
-{
-    let n = elements::shape(9, xi, eta);
-    let grad = elements::grad_ref(9, xi, eta);
-    Frame {
-        point: point_sum(9, coords, &n),
-        jacobian: jacobian_sum(9, coords, &grad),
-    }
-}
-
-pub fn frame_at(family: usize, coords: &[f64; 18], reference: Reference) -> Frame
-    ensures { λ r. ⌜ r .point ≡ pointAt (element family (now (coords .entry))) reference ⌝ }
-    ensures { λ r. ⌜ r .jacobian ≡ jacobianAt (element family (now (coords .entry))) reference ⌝ }
-{
-    let Reference { xi, eta } = reference;
-    if family == 9 {
-        frame9(coords, xi, eta)
-    } else {
-        frame4(coords, xi, eta)
     }
 }

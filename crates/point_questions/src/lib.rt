@@ -30,7 +30,7 @@ fn place_questions(
     ensures { λ r. ⌜ (let e = element family (now (coords .entry)) in
         verdictOutcome r ≡ onward (verdictOutcome v) (asked (notInverted e p reference ∷ offAxis formulation e p reference) tt)) ⌝ }
 {
-    let frame = mapping::frame_at(family, coords, reference);
+    let frame = frames::frame_at(family, coords, reference);
     let v = asking::then(v, !(gradients::det_j(frame.jacobian) <= 0.0), 16, p);
     match formulation {
         Structural2dFormulation::Axisymmetric => {

@@ -1,5 +1,5 @@
 -- `element_search::frame_of` meets its contract: every family but 9 counts as 4. Assumes nothing.
-use Rattle.mapping.proofs.Families.{frame-nine, frame-four}
+use Rattle.frames.proofs.Families.{frame-nine, frame-four}
 use Rattle.element_search.proofs.frame_of.Statement.{statement}
 use Rattle.element_search.proofs.frame_of.Tie as tie
 
