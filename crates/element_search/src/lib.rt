@@ -85,7 +85,7 @@ fn next_reference(j: JacobianMatrix, det: f64, u: f64, v: f64, r: Reference) -> 
     Reference { xi, eta }
 }
 
-// `frame_at` once more, which the face search calls. So `frame9` has two callers and the compiler calls it, and it puts the frame of family 4 in line in both searches.
+// `frame_at` once more, which the face search calls. So each of the two has one caller in the query, and the compiler puts it in line.
 fn frame_of(count: usize, xy: &[f64; 18], r: Reference) -> Frame
     ensures { λ f. ⌜ (f .point ≡ pointAt (element count (now (xy .entry))) r) × (f .jacobian ≡ jacobianAt (element count (now (xy .entry))) r) ⌝ }
 {

@@ -51,7 +51,7 @@ fn face_step(count: usize, xy: &[f64; 18], local_face: u8, target: Point, s: f64
             eta: f.eta,
         },
     );
-    let d = gradients::face_tangent(g.jacobian, f);
+    let d = jacobians::face_tangent(g.jacobian, f);
     let square = d.x * d.x + d.y * d.y;
     if square <= EPSILON {
         return FaceStep {

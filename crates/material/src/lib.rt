@@ -13,8 +13,8 @@ ghost use Rattle.material.specs.Sixteen.{sixteen};
 pub fn material_part<'a>(table: &'a [f64], number: usize) -> &'a [f64]
     ensures { λ r. ⌜ now r ≡ materialOf (now (table .entry)) number ⌝ }
 {
-    let start = lists::part_start(16, number, table.len());
-    let end = lists::part_end(16, start, table.len());
+    let start = parts::part_start(16, number, table.len());
+    let end = parts::part_end(16, start, table.len());
     &table[start..end]
 }
 

@@ -16,8 +16,8 @@ pub fn element_nodes<'a>(family: usize, elements: &'a [u32], element_index: usiz
     ensures { λ r. ⌜ now r ≡ elementNodes (record { family = family; nodes = []; elements = now (elements .entry) }) «element_index» ⌝ }
 {
     let f = families::nodes_per_element(family);
-    let start = lists::part_start(f, element_index, elements.len());
-    let end = lists::part_end(f, start, elements.len());
+    let start = parts::part_start(f, element_index, elements.len());
+    let end = parts::part_end(f, start, elements.len());
     &elements[start..end]
 }
 

@@ -31,7 +31,7 @@ fn place_questions(
         verdictOutcome r ≡ onward (verdictOutcome v) (asked (notInverted e p reference ∷ offAxis formulation e p reference) tt)) ⌝ }
 {
     let frame = frames::frame_at(family, coords, reference);
-    let v = asking::then(v, !(gradients::det_j(frame.jacobian) <= 0.0), 16, p);
+    let v = asking::then(v, !(jacobians::det_j(frame.jacobian) <= 0.0), 16, p);
     match formulation {
         Structural2dFormulation::Axisymmetric => {
             asking::then(v, !(frame.point.x <= EPSILON), 17, p)

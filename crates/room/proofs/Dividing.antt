@@ -5,7 +5,7 @@ use native.Mathlib.Decide.{decLe}
 use native.Mathlib.Omega.{arith}
 use borrow.Author.Tests.{le-leb, lt-leb}
 use lib.Dec.{leb}
-use Rattle.lists.proofs.Parts.{part-begins, part-past}
+use Rattle.parts.proofs.Parts.{part-begins, part-past}
 
 pub room-divides : (k n len : ℕ) → 0 < k → leb n (len / k) ≡ leb (k * n) len
 room-divides k n len some =

@@ -25,7 +25,7 @@ fn gradient_at(family: usize, coords: &[f64; 18], reference: Reference) -> [f64;
 {
     let grad_reference = elements::grad_ref(family, reference.xi, reference.eta);
     let jac = mapping::jacobian(family, coords, &grad_reference);
-    gradients::grad_phys(family, &grad_reference, gradients::inv_j(jac))
+    gradients::grad_phys(family, &grad_reference, jacobians::inv_j(jac))
 }
 
 // One number of each pair.

@@ -1,7 +1,7 @@
 -- `material::material_part` meets its contract: the start and the end are those of the sixteen numbers as far as the table goes, and the part between them is what the definition takes. Assumes nothing.
 use borrow.Author.Needs.{needs}
 use Rattle.definition.specs.Rows.{materialOf}
-use Rattle.lists.proofs.Parts.{part-within}
+use Rattle.parts.proofs.Parts.{part-within}
 use Rattle.material.proofs.material_part.Statement.{statement}
 use Rattle.material.proofs.material_part.Tie as tie
 

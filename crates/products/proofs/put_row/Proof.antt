@@ -6,7 +6,7 @@ use lib.ListN.{length, length-set}
 use Rattle.definition.specs.Lists.{each}
 use Rattle.definition.specs.Query.{values}
 use Rattle.products.specs.Products.{overFrom, entryOf}
-use Rattle.lists.proofs.Parts.{part-fits}
+use Rattle.parts.proofs.Parts.{part-fits}
 use Rattle.products.proofs.Writing.{over-from-none, over-from-value}
 use Rattle.products.proofs.put_row.Statement.{statement}
 use Rattle.products.proofs.put_row.Tie as tie

@@ -2,9 +2,9 @@
 use native.Mathlib.Nat.{zero-mul}
 use native.Mathlib.Omega.{arith}
 use borrow.Author.Needs.{needs}
-use Rattle.lists.proofs.Parts.{part-begins, part-past}
-use Rattle.lists.proofs.part_start.Statement.{statement}
-use Rattle.lists.proofs.part_start.Tie as tie
+use Rattle.parts.proofs.Parts.{part-begins, part-past}
+use Rattle.parts.proofs.part_start.Statement.{statement}
+use Rattle.parts.proofs.part_start.Tie as tie
 
 returns : tie.Need-returns
 returns c = rw (c .if1 .taken, zero-mul) (omega arith)

@@ -1,8 +1,8 @@
--- `gradients::inv_j` meets its contract: the code writes the inverse out as the definition does, over the determinant that `det_j` ensures. Assumes nothing.
+-- `jacobians::inv_j` meets its contract: the code writes the inverse out as the definition does, over the determinant that `det_j` ensures. Assumes nothing.
 use lib.Ieee.{ofBits}
 use Rattle.definition.specs.Mapping.{invJ}
-use Rattle.gradients.proofs.inv_j.Statement.{statement}
-use Rattle.gradients.proofs.inv_j.Tie as tie
+use Rattle.jacobians.proofs.inv_j.Statement.{statement}
+use Rattle.jacobians.proofs.inv_j.Tie as tie
 
 returns : tie.Need-returns
 unfolding invJ ofBits
