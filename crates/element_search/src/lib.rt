@@ -178,7 +178,7 @@ fn element_walk(
 fn element_place(count: usize, xy: &[f64; 18], target: Point, r: Reference) -> ElementBest
     ensures { λ b. ⌜ b ≡ elementPlace (placed (pointAt (element count (now (xy .entry)))) target r) ⌝ }
 {
-    let point = steps::point_of(count, xy, r);
+    let point = frames::point_of(count, xy, r);
     let square = distances::squared_distance(point.x, point.y, target.x, target.y);
     ElementBest {
         reference: r,

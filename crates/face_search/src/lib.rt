@@ -119,7 +119,7 @@ fn face_place(count: usize, xy: &[f64; 18], local_face: u8, target: Point, s: f6
     ensures { λ b. ⌜ b ≡ facePlace (placed (facePoint (element count (now (xy .entry))) «local_face») target s) ⌝ }
 {
     let f = faces::face_reference(local_face, s);
-    let point = steps::point_of(
+    let point = frames::point_of(
         count,
         xy,
         Reference {

@@ -1,4 +1,4 @@
-// The point of an element at a reference together with the Jacobian there. It knows the shape numbers and the map; nothing of a search or a mesh.
+// What a search asks of an element at a reference: the point, and the frame, which is the point together with the Jacobian there. It knows the shape numbers and the map; nothing of a search or a mesh.
 // A whole arm for each family, from N to the sums, is straight code; (xi, eta) goes below as two numbers, which the compiler keeps in registers.
 
 use definition::JacobianMatrix;
@@ -7,6 +7,17 @@ use definition::Reference;
 ghost use mathlib.Core.Path.{_≡_};
 ghost use Rattle.definition.specs.Mapping.{pointAt, jacobianAt};
 ghost use Rattle.mapping.specs.Element.{element};
+
+// `point_at`. Family 4 by its number is short enough for the compiler to put it in line.
+pub fn point_of(count: usize, xy: &[f64; 18], r: Reference) -> Point
+    ensures { λ p. ⌜ p ≡ pointAt (element count (now (xy .entry))) r ⌝ }
+{
+    if count == 4 {
+        mapping::point_at(4, xy, r)
+    } else {
+        mapping::point_at(count, xy, r)
+    }
+}
 
 // What one step of a search needs: the point of an element at a reference, and the Jacobian there.
 pub struct Frame {

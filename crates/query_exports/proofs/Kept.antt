@@ -1,18 +1,10 @@
--- An exported call keeps its promise where the call under it keeps its own and the numbers are those of that call's answer. Assumes nothing.
+-- The exported query keeps its promise where the call under it keeps its own and the numbers are those of that call's answer. Assumes nothing.
 use mathlib.Core.Path.{_≡_, ap, _∙_}
-use mathlib.Core.List.{List}
-use Prim.Native.Nat.{ℕ}
 use Rattle.definition.specs.Query.{QueryCall, QueryLists, queryOutcome, QueryPromise}
-use Rattle.definition.specs.Job.{jobOutcome, JobPromise}
 use Rattle.definition.specs.declared.QueryAnswer.{QueryAnswer}
-use Rattle.definition.specs.declared.JobAnswer.{JobAnswer}
-use Rattle.numbers.specs.Numbers.{queryNumbers, jobNumbers}
+use Rattle.numbers.specs.Numbers.{queryNumbers}
 use Rattle.numbers.specs.declared.QueryNumbers.{QueryNumbers}
-use Rattle.numbers.specs.declared.JobNumbers.{JobNumbers}
-use Rattle.query_exports.specs.Exported.{QueryExported, JobExported}
+use Rattle.query_exports.specs.Exported.{QueryExported}
 
 pub query-kept : {q : QueryCall} {before after : QueryLists} {a : QueryAnswer} {r : QueryNumbers} → QueryPromise q before a after → r ≡ queryNumbers (queryOutcome a) → QueryExported q before r after
 query-kept p e = record { answers = e ∙ ap queryNumbers (p .answers); leaves = p .leaves }
-
-pub job-kept : {bytes before after : List ℕ} {a : JobAnswer} {r : JobNumbers} → JobPromise bytes before a after → r ≡ jobNumbers (jobOutcome a) → JobExported bytes before r after
-job-kept p e = record { answers = e ∙ ap jobNumbers (p .answers); leaves = p .leaves }

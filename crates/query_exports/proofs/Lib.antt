@@ -1,2 +1,2 @@
--- Laws that the proofs of the exported calls cite.
+-- The law that the proof of the exported query cites.
 mod Kept

@@ -1,9 +1,8 @@
-// The C interface of the query: the query over slices and numbers, and the job's call, under plain names. include/sobrizenta.h declares them and explains every parameter.
-// It knows the public calls and which numbers stand for their types. It asks no question of its own, so a refusal is the call's, and its answer is the call's in numbers.
+// The C interface of the query: the query over slices and numbers, under a plain name. include/sobrizenta.h declares it and explains every parameter.
+// It knows the public call and which numbers stand for its types. It asks no question of its own, so a refusal is the call's, and its answer is the call's in numbers.
 // In C a slice is two parameters, a pointer and a length.
 ghost use Rattle.query.specs.Query.{call, lists};
-ghost use Rattle.query_exports.specs.Exported.{QueryExported, JobExported};
-use numbers::JobNumbers;
+ghost use Rattle.query_exports.specs.Exported.{QueryExported};
 use numbers::QueryNumbers;
 
 // `query_quad_mesh`: the nearest node, element and face of each point, in twelve lent lists.
@@ -53,13 +52,4 @@ pub extern "C" fn sobrizenta_query_quad_mesh<'a>(
         nearest_face_distances,
     );
     numbers::query_numbers(answer)
-}
-
-// `answer_job`: from a job's bytes to its listing's bytes, in a lent output of at least 30,738 bytes.
-#[no_mangle]
-pub extern "C" fn sobrizenta_answer_job(job: &[u8], listing: &mut [u8]) -> JobNumbers
-    ensures { λ r. ⌜ JobExported (now (job .entry)) (now (listing .entry)) r (now (listing .exit)) ⌝ }
-{
-    let answer = job::answer_job(job, listing);
-    numbers::job_numbers(answer)
 }

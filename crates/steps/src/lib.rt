@@ -1,14 +1,10 @@
-// What the element search and the face search share: how far a step may go, when two places are one, when a place is taken, and the point at a reference. The laws of steps, and of the best after each seed, stand in its proofs.
-// It knows the definition and an element's map; nothing of what a seed or a step is in either search.
+// What the element search and the face search share: how far a step may go, when two places are one, and when a place is taken. The laws of steps, and of the best after each seed, stand in its proofs.
+// It knows the definition; nothing of an element, or of what a seed or a step is in either search.
 
-use definition::Point;
-use definition::Reference;
 ghost use mathlib.Core.Path.{_≡_};
 ghost use mathlib.Core.Bool.{true, _||_};
 ghost use lib.Ieee.{lt, le};
 ghost use Rattle.definition.specs.Binary64.{clampOf, magnitude};
-ghost use Rattle.definition.specs.Mapping.{pointAt};
-ghost use Rattle.mapping.specs.Element.{element};
 ghost use Rattle.steps.specs.Steps.{oneNumber};
 
 // Within [-1, 1], and -1 for NaN.
@@ -46,15 +42,4 @@ pub fn is_taken(first: bool, square: f64, best_square: f64) -> bool
     ensures { λ r. ⌜ r ≡ first || lt square «best_square» ⌝ }
 {
     if first { true } else { square < best_square }
-}
-
-// `point_at`. Family 4 by its number is short enough for the compiler to put it in line.
-pub fn point_of(count: usize, xy: &[f64; 18], r: Reference) -> Point
-    ensures { λ p. ⌜ p ≡ pointAt (element count (now (xy .entry))) r ⌝ }
-{
-    if count == 4 {
-        mapping::point_at(4, xy, r)
-    } else {
-        mapping::point_at(count, xy, r)
-    }
 }

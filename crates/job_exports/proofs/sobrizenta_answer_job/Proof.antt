@@ -1,7 +1,7 @@
 -- `sobrizenta_answer_job` meets its contract: the call under it keeps its promise, and its answer is turned into numbers. Assumes nothing.
-use Rattle.query_exports.proofs.Kept.{job-kept}
-use Rattle.query_exports.proofs.sobrizenta_answer_job.Statement.{statement}
-use Rattle.query_exports.proofs.sobrizenta_answer_job.Tie as tie
+use Rattle.job_exports.proofs.Kept.{job-kept}
+use Rattle.job_exports.proofs.sobrizenta_answer_job.Statement.{statement}
+use Rattle.job_exports.proofs.sobrizenta_answer_job.Tie as tie
 
 pub sobrizenta-answer-job-spec : {M : Type 1} → statement M
 sobrizenta-answer-job-spec =

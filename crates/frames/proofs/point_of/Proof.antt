@@ -1,6 +1,6 @@
--- `steps::point_of` meets its contract: both arms are one call, the first with a number for the count. Assumes nothing.
-use Rattle.steps.proofs.point_of.Statement.{statement}
-use Rattle.steps.proofs.point_of.Tie as tie
+-- `frames::point_of` meets its contract: both arms are one call, the first with a number for the count. Assumes nothing.
+use Rattle.frames.proofs.point_of.Statement.{statement}
+use Rattle.frames.proofs.point_of.Tie as tie
 
 returns : tie.Need-returns
 returns c = rw (c .before .if1 .taken) (c .point-at .ensures)

@@ -1,0 +1,2 @@
+-- The law that the proof of the exported job cites.
+mod Kept
