@@ -1,4 +1,4 @@
-// What a search asks of an element at a reference: the point, and the frame, which is the point together with the Jacobian there. It knows the shape numbers and the map; nothing of a search or a mesh.
+// An element at a reference, as the searches and the questions on a point ask for it: its point, and its frame, which is the point together with the Jacobian. It knows the shape numbers and the map, and nothing of a mesh.
 // A whole arm for each family, from N to the sums, is straight code; (xi, eta) goes below as two numbers, which the compiler keeps in registers.
 
 use definition::JacobianMatrix;
@@ -51,6 +51,7 @@ pub fn frame9(coords: &[f64; 18], xi: f64, eta: f64) -> Frame
     }
 }
 
+// The frame of an element at a reference.
 pub fn frame_at(family: usize, coords: &[f64; 18], reference: Reference) -> Frame
     ensures { λ r. ⌜ r .point ≡ pointAt (element family (now (coords .entry))) reference ⌝ }
     ensures { λ r. ⌜ r .jacobian ≡ jacobianAt (element family (now (coords .entry))) reference ⌝ }

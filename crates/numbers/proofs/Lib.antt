@@ -1,2 +1,3 @@
--- A theorem of the numbers.
+-- A theorem of the numbers, and what the exported calls cite.
 pub mod Told
+pub mod Kept

@@ -1,2 +1,3 @@
--- The words of this crate's contracts.
+-- The words of this crate's contracts, and of those of the exported calls.
 pub mod Numbers
+pub mod Exported

@@ -1,13 +1,11 @@
--- What an exported operator promises: what the call comes to, in numbers, and the lent lists that the definition leaves. It is the promise of the call under it, with numbers in place of the enum.
-use mathlib.Core.Path.{_≡_}
+-- What an exported operator promises: `OperatorPromise`, with numbers in place of the enum.
 use Rattle.definition.specs.Operators.{InterpolationCall, StrainCall, StressCall, Operator, TripletLists, operated, tripletLists, interpolation, strain, stress}
+use Rattle.numbers.specs.Exported.{Exported}
 use Rattle.numbers.specs.Numbers.{operatorNumbers}
 use Rattle.numbers.specs.declared.OperatorNumbers.{OperatorNumbers}
 
--- `OperatorPromise`
-pub record OperatorExported (o : Operator) (before : TripletLists) (answer : OperatorNumbers) (after : TripletLists) : Type 0 where
-  pub answers : answer ≡ operatorNumbers (operated o)
-  pub leaves : after ≡ tripletLists o (operated o) before
+abbrev OperatorExported : Operator → TripletLists → OperatorNumbers → TripletLists → Type 0
+OperatorExported o before answer after = Exported operatorNumbers (operated o) (tripletLists o (operated o) before) answer after
 
 -- `InterpolationPromise`, `StrainPromise`, `StressPromise`
 abbrev pub InterpolationExported : InterpolationCall → TripletLists → OperatorNumbers → TripletLists → Type 0

@@ -114,6 +114,7 @@ fn formulation_of(case: &[u8; 65536]) -> usize {
     number_at(case, 2, 1) as usize
 }
 
+// The thickness of a plane, which no operator reads.
 fn thickness_of(case: &[u8; 65536]) -> f64 {
     float_at(case, 4)
 }

@@ -1,5 +1,6 @@
 -- `sobrizenta_answer_job` meets its contract: the call under it keeps its promise, and its answer is turned into numbers. Assumes nothing.
-use Rattle.job_exports.proofs.Kept.{job-kept}
+use Rattle.numbers.specs.Numbers.{jobNumbers}
+use Rattle.numbers.proofs.Kept.{kept}
 use Rattle.job_exports.proofs.sobrizenta_answer_job.Statement.{statement}
 use Rattle.job_exports.proofs.sobrizenta_answer_job.Tie as tie
 
@@ -9,4 +10,6 @@ sobrizenta-answer-job-spec =
     (tie.spec
     (λ c κs. tt) (λ c κs. tt)
     (λ c. c .before .before .listing .given)
-    (λ c. job-kept (c .before .before .before .answer-job .ensures) (c .job-numbers .ensures)))
+    (λ c.
+    let promise = c .before .before .before .answer-job .ensures in
+    kept jobNumbers (promise .answers) (promise .leaves) (c .job-numbers .ensures)))

@@ -1,5 +1,6 @@
 -- `sobrizenta_query_quad_mesh` meets its contract: the call under it keeps its promise, and its answer is turned into numbers. Assumes nothing.
-use Rattle.query_exports.proofs.Kept.{query-kept}
+use Rattle.numbers.specs.Numbers.{queryNumbers}
+use Rattle.numbers.proofs.Kept.{kept}
 use Rattle.query_exports.proofs.sobrizenta_query_quad_mesh.Statement.{statement}
 use Rattle.query_exports.proofs.sobrizenta_query_quad_mesh.Tie as tie
 
@@ -20,4 +21,6 @@ sobrizenta-query-quad-mesh-spec =
     (λ c. c .before .before .before .before .before .before .nearest-face-reference-coordinates .given)
     (λ c. c .before .before .before .before .nearest-face-points .given)
     (λ c. c .before .before .nearest-face-distances .given)
-    (λ c. query-kept (c .before .before .before .before .before .before .before .before .before .before .before .before .before .before .before .before .before .before .before .before .before .before .before .before .before .query-quad-mesh .ensures) (c .query-numbers .ensures)))
+    (λ c.
+    let promise = c .before .before .before .before .before .before .before .before .before .before .before .before .before .before .before .before .before .before .before .before .before .before .before .before .before .query-quad-mesh .ensures in
+    kept queryNumbers (promise .answers) (promise .leaves) (c .query-numbers .ensures)))

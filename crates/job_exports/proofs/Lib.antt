@@ -1,2 +1,0 @@
--- The law that the proof of the exported job cites.
-mod Kept

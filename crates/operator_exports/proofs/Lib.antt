@@ -1,2 +1,0 @@
--- The law that the proofs of the exported operators cite.
-mod Kept

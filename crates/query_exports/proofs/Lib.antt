@@ -1,2 +1,0 @@
--- The law that the proof of the exported query cites.
-mod Kept
