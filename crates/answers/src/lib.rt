@@ -1,7 +1,10 @@
-// The twelve lent lists of a query: the answer of one point in its places.
-// It knows the definition alone: no mesh, no search and no question. A list of points or references holds two numbers a point, in the mesh's unit of length for points.
-// Every call has an answer for every list and every number: a value without a place is left out.
+// The twelve lent lists of a query: whether they have room for the answers, and the answer of one point in its places.
+// It knows the definition and the lengths of lists: no mesh, no search and no question. A list of points or references holds two numbers a point, in the mesh's unit of length for points.
+// Every call has an answer for every list and every number: lengths are divided and no product is made, and a value without a place is left out.
 ghost use mathlib.Core.Path.{_≡_};
+ghost use mathlib.Core.Bool.{_&&_};
+ghost use Prim.Native.Nat.{_*_};
+ghost use lib.Dec.{leb};
 ghost use lib.ListN.{set};
 ghost use Rattle.answers.specs.Stored.{pairStored, nodeStored, elementStored, faceStored};
 use definition::ElementProjection;
@@ -102,4 +105,52 @@ pub fn store_face(
     store_float(p, face.s, nearest_face_reference_coordinates);
     store_pair(p, face.point.x, face.point.y, nearest_face_points);
     store_float(p, face.distance, nearest_face_distances);
+}
+
+// ---- room for the answers
+
+// Whether a list of len places holds one for each of n points as well.
+fn also_room(others: bool, n: usize, len: usize) -> bool
+    ensures { λ r. ⌜ r ≡ others && leb n len ⌝ }
+{
+    if others { n <= len } else { false }
+}
+
+// Whether a list of len places holds two for each of n points as well.
+fn also_pairs(others: bool, n: usize, len: usize) -> bool
+    ensures { λ r. ⌜ r ≡ others && leb (2 * n) len ⌝ }
+{
+    if others { n <= len / 2 } else { false }
+}
+
+// Whether lists of these lengths hold the answers of n points.
+pub fn holds_answers(
+    n: usize,
+    nearest_node_indices: usize,
+    nearest_node_points: usize,
+    nearest_node_distances: usize,
+    nearest_element_indices: usize,
+    nearest_element_reference_points: usize,
+    nearest_element_points: usize,
+    nearest_element_distances: usize,
+    nearest_face_element_indices: usize,
+    nearest_face_local_faces: usize,
+    nearest_face_reference_coordinates: usize,
+    nearest_face_points: usize,
+    nearest_face_distances: usize,
+) -> bool
+    ensures { λ r. ⌜ r ≡ leb n «nearest_node_indices» && leb (2 * n) «nearest_node_points» && leb n «nearest_node_distances» && leb n «nearest_element_indices» && leb (2 * n) «nearest_element_reference_points» && leb (2 * n) «nearest_element_points» && leb n «nearest_element_distances» && leb n «nearest_face_element_indices» && leb n «nearest_face_local_faces» && leb n «nearest_face_reference_coordinates» && leb (2 * n) «nearest_face_points» && leb n «nearest_face_distances» ⌝ }
+{
+    let mut r = n <= nearest_node_indices;
+    r = also_pairs(r, n, nearest_node_points);
+    r = also_room(r, n, nearest_node_distances);
+    r = also_room(r, n, nearest_element_indices);
+    r = also_pairs(r, n, nearest_element_reference_points);
+    r = also_pairs(r, n, nearest_element_points);
+    r = also_room(r, n, nearest_element_distances);
+    r = also_room(r, n, nearest_face_element_indices);
+    r = also_room(r, n, nearest_face_local_faces);
+    r = also_room(r, n, nearest_face_reference_coordinates);
+    r = also_pairs(r, n, nearest_face_points);
+    also_room(r, n, nearest_face_distances)
 }

@@ -1,10 +1,15 @@
-// The shape numbers of the two families on the reference square, and their gradients.
+// The two families of elements on the reference square: how many nodes they have, their shape numbers and gradients, and the faces.
 // It knows the definition alone, and nothing of a mesh: no coordinates and no node numbers.
 // A family is a number: 9, and every other number counts as 4. What a list holds past its family's nodes is 0.
 
+mod faces;
+mod families;
 mod quad4;
 mod quad9;
 
+pub use faces::face_reference;
+pub use families::is_family;
+pub use families::nodes_per_element;
 ghost use mathlib.Core.Path.{_≡_};
 ghost use Rattle.definition.specs.Elements.{shapeOf, gradRefOf};
 

@@ -8,7 +8,7 @@ ghost use lib.ListN.{length};
 ghost use Rattle.definition.specs.Operators.{InterpolationPromise};
 ghost use Rattle.operator_questions.specs.Calls.{interpolationCall};
 ghost use Rattle.triplets.specs.Strip.{strip, written};
-ghost use Rattle.sparse.specs.Triplets.{tripletsTill, shapeValue};
+ghost use Rattle.triplets.specs.Triplets.{tripletsTill, shapeValue};
 use definition::OperatorAnswer;
 use definition::Verdict;
 
@@ -32,7 +32,7 @@ fn put_interpolation(
         let nodes = mesh::element_nodes(family, elements, element_indices[p]);
         let reference = lists::reference_at(reference_points, p);
         let shape = elements::shape(family, reference.xi, reference.eta);
-        at = triplet_rows::put_shape_row(p as u32, family, nodes, shape, rows, columns, values, at);
+        at = triplets::put_shape_row(p as u32, family, nodes, shape, rows, columns, values, at);
         p += 1;
     }
     at
@@ -56,8 +56,8 @@ pub fn quad_mesh_interpolation_operator<'a>(
         (record { rows = now (rows .exit); columns = now (columns .exit); values = now (values .exit) }) ⌝ }
 {
     let count = element_indices.len();
-    let per_point = families::nodes_per_element(family);
-    let room = room::holds_triplets(count, per_point, rows.len(), columns.len(), values.len());
+    let per_point = elements::nodes_per_element(family);
+    let room = triplets::holds_triplets(count, per_point, rows.len(), columns.len(), values.len());
     let v = operator_questions::interpolation_questions(
         family,
         nodes_rz,

@@ -15,7 +15,7 @@ use Rattle.definition.specs.declared.QueryAnswer.the-variants.{Accepted, Refuse
 use Rattle.definition.proofs.Lists.{each-same, values-length, values-at, pairs-length, pairs-first, pairs-second, over-at}
 use Rattle.definition.proofs.Passing.{asked-accepted}
 use Rattle.listing.specs.Page.{Page, typed}
-use Rattle.lines.specs.Answers.{answerIn, listedOf, answerListing}
+use Rattle.listing.specs.Answers.{answerIn, listedOf, answerListing}
 
 -- ---- one place of a list with the answers over it
 

@@ -22,7 +22,7 @@ fn read_floats(bits: &[u64], floats: &mut [f64])
 {
     let mut i: usize = 0;
     while i < bits.len() {
-        floats[i] = floats::float_of(bits[i]);
+        floats[i] = binary64::float_of(bits[i]);
         i += 1;
     }
 }
@@ -73,7 +73,7 @@ fn put_query<'a>(
         &mut nearest_face_points,
         &mut nearest_face_distances,
     );
-    lines::put_answer(
+    listing::put_answer(
         answer,
         nearest_node_indices,
         nearest_node_points,

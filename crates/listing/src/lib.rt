@@ -1,12 +1,16 @@
-// The listing's lines: the first line, a point's line and a refusal, each put into a lent output from a place on.
-// This crate knows the text of a line and nothing of a mesh, a query or a job.
+// The listing's lines: the first line, a point's line and a refusal, each put into a lent output from a place on, and those of a query's answer and lists.
+// It knows the text of a line and the lists of an answer, and nothing of a mesh or a job.
 // Every call answers the place of the next byte. Bytes that have no room are left out, so no call asks anything of the place or of the output's length.
-use definition::PointAnswer;
+
+mod lines;
+
+pub use lines::put_answer;
 ghost use mathlib.Core.Path.{_≡_};
 ghost use mathlib.Core.List.{[], _∷_, _++_};
 ghost use Prim.Native.Nat.{_<_};
 ghost use Rattle.definition.specs.Job.{glyph, digits, decimal, hexadecimal, refusalLine, countsLine, pointLine};
 ghost use Rattle.listing.specs.Page.{page, typed};
+use definition::PointAnswer;
 
 // One byte, where there is room.
 fn put_byte(b: u8, out: &mut [u8], at: usize) -> usize

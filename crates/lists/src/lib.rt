@@ -1,12 +1,15 @@
-// What a place of a lent list holds. Every call has an answer for every place: past a list's end a number is 0 and a float is NaN, as the definition reads them.
+// What a place of a lent list holds, and where a part of a list lies. It knows the definition and lengths; nothing of what a list is for.
+// Every call has an answer for every number: past a list's end a number is 0 and a float is NaN, as the definition reads them, and a part ends with the list.
 ghost use mathlib.Core.Path.{_≡_};
-ghost use Prim.Native.Nat.{_^_, _<_};
+ghost use Prim.Native.Nat.{_+_, _*_, _^_, _<_, min};
 ghost use lib.ListN.{getD};
 ghost use lib.Ieee.{nan};
 ghost use Rattle.definition.specs.Mapping.{first, second};
 ghost use Rattle.definition.specs.Mesh.{pairAt};
 use definition::Point;
 use definition::Reference;
+
+// ---- what a place holds
 
 // A node number as a place of a list.
 fn wide(x: u32) -> usize
@@ -65,4 +68,30 @@ pub fn reference_at(reference_points: &[f64], p: usize) -> Reference
 {
     let q = pair_at(reference_points, p);
     Reference { xi: q.x, eta: q.y }
+}
+
+// ---- where a part lies
+
+// Where part i begins in a list of len numbers in parts of `size` each, or len where that is past the end.
+pub fn part_start(size: usize, i: usize, len: usize) -> usize
+    ensures { λ r. ⌜ r ≡ min (size * i) len ⌝ }
+{
+    if size == 0 {
+        return 0;
+    }
+    if i <= len / size { size * i } else { len }
+}
+
+// Where `size` places that begin at start end in a list of len numbers, or len where that is past the end.
+pub fn part_end(size: usize, start: usize, len: usize) -> usize
+    ensures { λ r. ⌜ r ≡ min (start + size) len ⌝ }
+{
+    if len <= start {
+        return len;
+    }
+    if size <= len - start {
+        start + size
+    } else {
+        len
+    }
 }

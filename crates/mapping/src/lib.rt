@@ -1,15 +1,28 @@
-// The map from the reference square to the plane: points and Jacobians of one element. The Rust's mapping.rs, its first half.
+// The map from the reference square to the plane: points and Jacobians of one element, and what they give. The Rust's mapping.rs.
 // It knows an element by its family and by the coordinates of its nodes, and nothing of a mesh: no node numbers, no questions.
 // Coordinates and gradients stand two a node; the places past the family's nodes are not read. Sums start at +0 and run in local node order.
 
-use definition::JacobianMatrix;
-use definition::Point;
-use definition::Reference;
+mod frames;
+mod gradients;
+mod jacobians;
+
+pub use frames::Frame;
+pub use frames::frame_at;
+pub use frames::frame4;
+pub use frames::frame9;
+pub use frames::point_of;
+pub use gradients::grad_phys;
+pub use jacobians::det_j;
+pub use jacobians::face_tangent;
+pub use jacobians::inv_j;
 ghost use mathlib.Core.Path.{_≡_};
 ghost use Prim.Native.Nat.{_≤_, _<_};
 ghost use Rattle.definition.specs.Elements.{nodesOf};
 ghost use Rattle.definition.specs.Mapping.{first, second, mapPoint, jacobianOf, pointAt};
 ghost use Rattle.mapping.specs.Element.{element};
+use definition::JacobianMatrix;
+use definition::Point;
+use definition::Reference;
 
 // The two numbers of a node: x and y, or the gradients by xi and by eta.
 struct Pair {

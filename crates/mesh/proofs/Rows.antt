@@ -7,7 +7,7 @@ use native.Mathlib.Omega.{arith}
 use lib.ListN.{length, take, drop, length-take, length-drop}
 use Rattle.definition.specs.Elements.{nodesOf}
 use Rattle.definition.specs.Mesh.{Mesh, elementCount, elementNodes, repeatedCount}
-use Rattle.parts.proofs.Parts.{part-within}
+use Rattle.lists.proofs.Parts.{part-within}
 
 -- ---- where a row lies, among len numbers in rows of f
 

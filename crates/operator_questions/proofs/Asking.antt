@@ -8,7 +8,7 @@ use Rattle.definition.specs.Elements.{nodesOf}
 use Rattle.definition.specs.Questions.{Question, Outcome, accepted, refused, asked}
 use Rattle.definition.specs.Operators.{InterpolationCall, StrainCall, StressCall, TripletLists, tripletRoom, interpolationQuestions, strainQuestions, stressQuestions}
 use Rattle.definition.proofs.Passing.{asked-append}
-use Rattle.element_questions.specs.Points.{interpolationAsked}
+use Rattle.point_questions.specs.Points.{interpolationAsked}
 use Rattle.point_questions.specs.Points.{strainAsked, stressAsked}
 use Rattle.operator_questions.specs.Calls.{listed, materialListed}
 

@@ -37,7 +37,7 @@ fn mesh_questions(
 ) -> Verdict
     ensures { λ r. ⌜ verdictOutcome r ≡ asked (meshQuestions (interpolationCall family (now («nodes_rz» .entry)) (now (elements .entry)) (now («element_indices» .entry)) (now («reference_points» .entry)))) tt ⌝ }
 {
-    let v = questions::mesh_questions(family, nodes_rz, elements);
+    let v = mesh_questions::mesh_questions(family, nodes_rz, elements);
     let holds = references_whole(reference_points.len(), element_indices.len());
     asking::then(v, holds, 5, 0)
 }
@@ -54,7 +54,7 @@ fn number_questions(
     ensures { λ r. ⌜ (let m : Mesh = record { family = family; nodes = now («nodes_rz» .entry); elements = now (elements .entry) } in
         verdictOutcome r ≡ onward (verdictOutcome v) (asked (nodeNumbers m ++ numbersMatch (now («element_indices» .entry)) (now («reference_points» .entry)) ∷ []) tt)) ⌝ }
 {
-    let w = questions::connectivity_question(family, nodes_rz, elements);
+    let w = mesh_questions::connectivity_question(family, nodes_rz, elements);
     let v = asking::after(v, w);
     asking::then(
         v,
@@ -117,7 +117,7 @@ pub fn interpolation_questions(
     if let Verdict::Refused { .. } = v {
         return v;
     }
-    element_questions::interpolation_point_questions(family, elements, element_indices)
+    point_questions::interpolation_point_questions(family, elements, element_indices)
 }
 
 // ---- strain: 1, 2, 3, 5, 7, 8, 11, and for each point 14, 16, 17
@@ -216,7 +216,7 @@ fn material_questions(
         element_indices,
         reference_points,
     );
-    let count = elements.len() / families::nodes_per_element(family);
+    let count = elements.len() / elements::nodes_per_element(family);
     let v = asking::then(v, material_ids.len() == count, 12, 0);
     asking::then(v, pairs_match(pairs_given, pairs.len(), count), 13, 0)
 }

@@ -1,5 +1,5 @@
 -- The questions of one point in the definition's words, over the lists of a call.
-use mathlib.Core.List.{List, _∷_}
+use mathlib.Core.List.{List, [], _∷_}
 use Prim.Native.Nat.{ℕ}
 use lib.ListN.{getD}
 use lib.Ieee.{Float}
@@ -11,6 +11,10 @@ use Rattle.definition.specs.declared.Structural2dFormulation.{Structural2dFormu
 
 abbrev pub referenceOf : List Float → ℕ → Reference
 referenceOf references p = record { xi = first references p; eta = second references p }
+
+-- 14
+abbrev pub interpolationAsked : Mesh → List ℕ → ℕ → List Question
+interpolationAsked m indices p = elementKnown m p (getD indices p 0) ∷ []
 
 -- 14, 16 and 17
 abbrev pub strainAsked : Mesh → List ℕ → List Float → Structural2dFormulation → ℕ → List Question

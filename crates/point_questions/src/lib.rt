@@ -1,5 +1,11 @@
-// The questions that strain and stress ask of one point after the other: 14, 15, 16 and 17. The first no is the answer, with the point as its place.
+// The questions that the operators ask of one point after the other: 14 for interpolation, and 14, 15, 16 and 17 for strain and stress. The first no is the answer, with the point as its place.
+// It knows the definition, the mesh and an element's map; nothing of a triplet.
 // A mesh is three parameters: its family; `nodes_rz`, two coordinates a node; and `elements`, the connectivity. `element_indices` names the element of each point, and `reference_points` holds two reference coordinates a point.
+
+mod element_questions;
+
+pub use element_questions::element_question;
+pub use element_questions::interpolation_point_questions;
 ghost use mathlib.Core.Path.{_≡_};
 ghost use mathlib.Core.List.{_∷_};
 ghost use lib.Dec.{ltb};
@@ -30,8 +36,8 @@ fn place_questions(
     ensures { λ r. ⌜ (let e = element family (now (coords .entry)) in
         verdictOutcome r ≡ onward (verdictOutcome v) (asked (notInverted e p reference ∷ offAxis formulation e p reference) tt)) ⌝ }
 {
-    let frame = frames::frame_at(family, coords, reference);
-    let v = asking::then(v, !(jacobians::det_j(frame.jacobian) <= 0.0), 16, p);
+    let frame = mapping::frame_at(family, coords, reference);
+    let v = asking::then(v, !(mapping::det_j(frame.jacobian) <= 0.0), 16, p);
     match formulation {
         Structural2dFormulation::Axisymmetric => {
             asking::then(v, !(frame.point.x <= EPSILON), 17, p)
@@ -56,7 +62,7 @@ fn strain_questions_at(
     let v = element_questions::element_question(p, family, elements, element_index);
     let mut xy = [0.0; 18];
     mesh::put_element_coords(family, nodes_rz, elements, element_index, &mut xy);
-    let count = families::nodes_per_element(family);
+    let count = elements::nodes_per_element(family);
     place_questions(v, p, formulation, count, &xy, reference)
 }
 
@@ -79,7 +85,7 @@ fn stress_questions_at(
     let v = asking::then(v, material < materials, 15, p);
     let mut xy = [0.0; 18];
     mesh::put_element_coords(family, nodes_rz, elements, element_index, &mut xy);
-    let count = families::nodes_per_element(family);
+    let count = elements::nodes_per_element(family);
     place_questions(v, p, formulation, count, &xy, reference)
 }
 

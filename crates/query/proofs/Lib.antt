@@ -1,3 +1,4 @@
--- Laws that the proof of the query cites.
-mod Promised
+-- Laws that the proofs share.
+mod Filling
 mod Room
+mod Promised

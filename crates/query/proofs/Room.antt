@@ -14,8 +14,8 @@ use Rattle.definition.specs.Lists.{each, over}
 use Rattle.definition.specs.Query.{QueryCall, QueryLists, queryRoom, answerAt, answersOver}
 use Rattle.definition.proofs.Lists.{over-value, over-pair, and-parts}
 use Rattle.answers.specs.Stored.{pairStored}
-use Rattle.filling.specs.Filled.{stored, filled}
-use Rattle.filling.proofs.Filling.{lengths, filled-lengths}
+use Rattle.query.specs.Filled.{stored, filled}
+use Rattle.query.proofs.Filling.{lengths, filled-lengths}
 
 -- each list has the places of point p: one, or two where the answer is a pair of coordinates
 pub record Places (l : QueryLists) (p : ℕ) : Type 0 where

@@ -12,11 +12,11 @@ fn content_questions(family: usize, nodes_rz: &[f64], elements: &[u32]) -> Verdi
     ensures { λ r. ⌜ (let m : Mesh = record { family = family; nodes = now («nodes_rz» .entry); elements = now (elements .entry) } in
         verdictOutcome r ≡ asked (nodeNumbers m ++ someNode m ∷ someElement m ∷ []) tt) ⌝ }
 {
-    let mut v = questions::connectivity_question(family, nodes_rz, elements);
+    let mut v = mesh_questions::connectivity_question(family, nodes_rz, elements);
     v = asking::then(v, 0 < nodes_rz.len() / 2, 9, 0);
     asking::then(
         v,
-        0 < elements.len() / families::nodes_per_element(family),
+        0 < elements.len() / elements::nodes_per_element(family),
         10,
         0,
     )
@@ -34,7 +34,7 @@ pub fn query_questions(
     ensures { λ r. ⌜ ((lent : QueryLists) → room ≡ queryRoom lent (pairCount (now (points .entry))) →
         verdictOutcome r ≡ asked (queryQuestions (record { mesh = record { family = family; nodes = now («nodes_rz» .entry); elements = now (elements .entry) }; iterations = «max_iterations»; points = now (points .entry) }) lent) tt) ⌝ }
 {
-    let mut v = questions::mesh_questions(family, nodes_rz, elements);
+    let mut v = mesh_questions::mesh_questions(family, nodes_rz, elements);
     v = asking::then(v, max_iterations <= 1000, 4, 0);
     v = asking::then(v, asking::whole(2, points.len()), 5, 0);
     v = asking::then(v, room, 7, 0);

@@ -1,4 +1,4 @@
--- Laws that the proofs share, and that the crates above may cite: `Prefix` says how much of a file decides its answer.
+-- Laws that the proofs share, and that other crates may cite: `Prefix` says how much of a file decides its answer.
 mod Numbers
 mod Storing
 mod Walking

@@ -156,7 +156,7 @@ fn record_bytes(kind: Kind, family: usize) -> usize
     match kind {
         Kind::Head => 5,
         Kind::Node => 18,
-        Kind::Element => 2 + 4 * families::nodes_per_element(family),
+        Kind::Element => 2 + 4 * elements::nodes_per_element(family),
         Kind::Point => 18,
         Kind::Unknown => 2,
     }
@@ -179,7 +179,7 @@ fn walk_after(bytes: &[u8], walk: Walk, kind: Kind) -> Walk
         }
         Kind::Node => next.node_values = walk.node_values + 2,
         Kind::Element => next.element_values = walk.element_values
-            + families::nodes_per_element(walk.family),
+            + elements::nodes_per_element(walk.family),
         Kind::Point => next.point_values = walk.point_values + 2,
         Kind::Unknown => {}
     }
@@ -193,7 +193,7 @@ fn family_read(kind: Kind, family: usize) -> bool
     ensures { λ r. ⌜ r ≡ familyPasses (markFor kind) family ⌝ }
 {
     if is_head(kind) {
-        families::is_family(family)
+        elements::is_family(family)
     } else {
         true
     }
@@ -204,7 +204,7 @@ fn is_within(walk: Walk) -> bool
     ensures { λ r. ⌜ r ≡ within walk ⌝ }
 {
     if walk.node_values <= 1024 {
-        if walk.element_values <= families::nodes_per_element(walk.family) * 256 {
+        if walk.element_values <= elements::nodes_per_element(walk.family) * 256 {
             return walk.point_values <= 512;
         }
     }
@@ -289,7 +289,7 @@ fn store_record(
         Kind::Element => store_row(
             bytes,
             body,
-            families::nodes_per_element(walk.family),
+            elements::nodes_per_element(walk.family),
             elements,
             walk.element_values,
         ),

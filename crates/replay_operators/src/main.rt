@@ -60,7 +60,7 @@ fn number_at(case: &[u8; 65536], at: usize, size: usize) -> u64 {
 
 // The float of eight bytes from a place on.
 fn float_at(case: &[u8; 65536], at: usize) -> f64 {
-    floats::float_of(number_at(case, at, 8))
+    binary64::float_of(number_at(case, at, 8))
 }
 
 // The lesser of two numbers.
@@ -260,7 +260,7 @@ fn answer_interpolation<'a>(
     let mut rows = [UNTOUCHED; 1152];
     let mut columns = [UNTOUCHED; 1152];
     let mut values = [UNTOUCHED_VALUE; 1152];
-    let answer = operator_exports::sobrizenta_interpolation_operator(
+    let answer = exports::sobrizenta_interpolation_operator(
         family_of(case),
         nodes_rz,
         elements,
@@ -283,7 +283,7 @@ fn answer_strain<'a>(
     let mut rows = [UNTOUCHED; 1152];
     let mut columns = [UNTOUCHED; 1152];
     let mut values = [UNTOUCHED_VALUE; 1152];
-    let answer = operator_exports::sobrizenta_strain_operator(
+    let answer = exports::sobrizenta_strain_operator(
         family_of(case),
         nodes_rz,
         elements,
@@ -311,7 +311,7 @@ fn answer_stress<'a>(
     let mut rows = [UNTOUCHED; 1152];
     let mut columns = [UNTOUCHED; 1152];
     let mut values = [UNTOUCHED_VALUE; 1152];
-    let answer = operator_exports::sobrizenta_stress_operator(
+    let answer = exports::sobrizenta_stress_operator(
         family_of(case),
         nodes_rz,
         elements,

@@ -12,8 +12,8 @@ use Rattle.definition.specs.Mapping.{first, second}
 use Rattle.definition.specs.Rows.{Basis, hoop, strainEntry}
 use Rattle.definition.specs.declared.Structural2dFormulation.{Structural2dFormulation}
 use Rattle.definition.proofs.Lists.{each-same, values-length, values-at, over-at}
-use Rattle.products.specs.Products.{overFrom}
-use Rattle.products.proofs.Writing.{part-next}
+use Rattle.materials.specs.Products.{overFrom}
+use Rattle.materials.proofs.Writing.{part-next}
 use Rattle.rows.specs.Values.{valuesOf, entryBy}
 use Rattle.rows.proofs.Values.{rowOf, row-length, values-of-same}
 

@@ -8,7 +8,7 @@ use lib.Ieee.{Float, nan}
 use Rattle.definition.specs.Lists.{each, over}
 use Rattle.definition.specs.Query.{values}
 use Rattle.definition.proofs.Lists.{each-same, each-length, each-at, values-length, values-at, over-at}
-use Rattle.parts.proofs.Parts.{part-fits}
+use Rattle.lists.proofs.Parts.{part-fits}
 use Rattle.rows.specs.Values.{valuesOf}
 
 -- the values of a component

@@ -14,7 +14,7 @@ ghost use Rattle.definition.specs.Mesh.{gathered};
 ghost use Rattle.definition.specs.Query.{values};
 ghost use Rattle.definition.specs.Rows.{basisAt, hoop, strainEntry};
 ghost use Rattle.mapping.specs.Element.{element};
-ghost use Rattle.products.specs.Products.{overFrom};
+ghost use Rattle.materials.specs.Products.{overFrom};
 ghost use Rattle.rows.specs.Values.{listed, entryBy};
 
 // ---- what the rows are made of, node after node
@@ -25,7 +25,7 @@ fn gradient_at(family: usize, coords: &[f64; 18], reference: Reference) -> [f64;
 {
     let grad_reference = elements::grad_ref(family, reference.xi, reference.eta);
     let jac = mapping::jacobian(family, coords, &grad_reference);
-    gradients::grad_phys(family, &grad_reference, jacobians::inv_j(jac))
+    mapping::grad_phys(family, &grad_reference, mapping::inv_j(jac))
 }
 
 // One number of each pair.
@@ -65,7 +65,7 @@ fn hoop_at(
 ) -> [f64; 9]
     ensures { λ r. ⌜ ((j : ℕ) → j < nodesOf family → getD r j nan ≡ hoop formulation (basisAt (element family (now (coords .entry))) reference) j) ⌝ }
 {
-    let count = families::nodes_per_element(family);
+    let count = elements::nodes_per_element(family);
     match formulation {
         Structural2dFormulation::Axisymmetric => {
             let n = elements::shape(family, reference.xi, reference.eta);
@@ -114,7 +114,7 @@ pub fn put_strain_values(
 )
     ensures { λ r. ⌜ now (out .exit) ≡ listed (strainEntry formulation (basisAt (element family (now (coords .entry))) reference)) (nodesOf family) (now (out .entry)) ⌝ }
 {
-    let count = families::nodes_per_element(family);
+    let count = elements::nodes_per_element(family);
     let gradient = gradient_at(family, coords, reference);
     let by_x = column(&gradient, 0, count);
     let by_y = column(&gradient, 1, count);
@@ -138,6 +138,6 @@ pub fn put_strain_at(
 {
     let mut xy = [0.0; 18];
     mesh::put_element_coords(family, nodes_rz, elements, element_index, &mut xy);
-    let count = families::nodes_per_element(family);
+    let count = elements::nodes_per_element(family);
     put_strain_values(formulation, count, &xy, Reference { xi, eta }, out);
 }

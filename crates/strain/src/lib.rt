@@ -7,7 +7,7 @@ ghost use lib.ListN.{length};
 ghost use Rattle.definition.specs.Operators.{StrainPromise};
 ghost use Rattle.operator_questions.specs.Calls.{interpolationCall, strainCall};
 ghost use Rattle.triplets.specs.Strip.{strip, written};
-ghost use Rattle.sparse.specs.Triplets.{tripletsTill, strainValue};
+ghost use Rattle.triplets.specs.Triplets.{tripletsTill, strainValue};
 use definition::OperatorAnswer;
 use definition::Structural2dFormulation;
 use definition::Verdict;
@@ -45,7 +45,7 @@ fn put_strain(
             formulation,
             &mut strain,
         );
-        at = triplet_rows::put_component_rows(
+        at = triplets::put_component_rows(
             p as u32,
             family,
             nodes,
@@ -79,8 +79,8 @@ pub fn quad_mesh_strain_operator<'a>(
         (record { rows = now (rows .exit); columns = now (columns .exit); values = now (values .exit) }) ⌝ }
 {
     let count = element_indices.len();
-    let per_point = 8 * families::nodes_per_element(family);
-    let room = room::holds_triplets(count, per_point, rows.len(), columns.len(), values.len());
+    let per_point = 8 * elements::nodes_per_element(family);
+    let room = triplets::holds_triplets(count, per_point, rows.len(), columns.len(), values.len());
     let v = operator_questions::strain_questions(
         family,
         nodes_rz,

@@ -11,9 +11,9 @@ use Rattle.definition.specs.Query.{values}
 use Rattle.definition.specs.Rows.{Basis, strainEntry, stressEntry}
 use Rattle.definition.specs.declared.Structural2dFormulation.{Structural2dFormulation}
 use Rattle.definition.proofs.Lists.{each-same, each-more}
-use Rattle.products.specs.Products.{entryOf, timesOf}
-use Rattle.material.specs.Sixteen.{sixteen}
-use Rattle.material.proofs.Sixteen.{times-of-sixteen}
+use Rattle.materials.specs.Products.{entryOf, timesOf}
+use Rattle.materials.specs.Sixteen.{sixteen}
+use Rattle.materials.proofs.Sixteen.{times-of-sixteen}
 use Rattle.rows.specs.Values.{valuesOf}
 use Rattle.rows.proofs.Values.{written-at}
 

@@ -12,7 +12,7 @@ ghost use Rattle.definition.specs.Rows.{basisAt, stressEntry, orientedMaterial}
 ghost use Rattle.operator_questions.specs.Calls.{interpolationCall, stressCall};
 ghost use Rattle.triplets.specs.Strip.{strip, written};
 ghost use Rattle.rows.specs.Values.{listed};
-ghost use Rattle.sparse.specs.Triplets.{tripletsTill, stressValue};
+ghost use Rattle.triplets.specs.Triplets.{tripletsTill, stressValue};
 use definition::OperatorAnswer;
 use definition::Structural2dFormulation;
 use definition::Verdict;
@@ -34,7 +34,7 @@ fn put_stress_at(
 )
     ensures { λ r. ⌜ now (out .exit) ≡ listed (stressEntry (orientedMaterial (now («material_table» .entry)) «material_id» «pairs_given» (now (pairs .entry)) «element_index») formulation (basisAt (gathered (record { family = family; nodes = now («nodes_rz» .entry); elements = now (elements .entry) }) «element_index») (record { xi = xi; eta = eta }))) (nodesOf family) (now (out .entry)) ⌝ }
 {
-    let oriented = material::oriented_material(
+    let oriented = materials::oriented_material(
         material_table,
         material_id,
         pairs_given,
@@ -52,7 +52,7 @@ fn put_stress_at(
         formulation,
         &mut strain,
     );
-    products::put_stress_values(&oriented, &strain, family, out);
+    materials::put_stress_values(&oriented, &strain, family, out);
 }
 
 // The triplets of stress, from the lists' first place on; their number.
@@ -96,7 +96,7 @@ fn put_stress(
             pairs,
             &mut stress,
         );
-        at = triplet_rows::put_component_rows(
+        at = triplets::put_component_rows(
             p as u32,
             family,
             nodes,
@@ -134,8 +134,8 @@ pub fn quad_mesh_stress_operator<'a>(
         (record { rows = now (rows .exit); columns = now (columns .exit); values = now (values .exit) }) ⌝ }
 {
     let count = element_indices.len();
-    let per_point = 8 * families::nodes_per_element(family);
-    let room = room::holds_triplets(count, per_point, rows.len(), columns.len(), values.len());
+    let per_point = 8 * elements::nodes_per_element(family);
+    let room = triplets::holds_triplets(count, per_point, rows.len(), columns.len(), values.len());
     let v = operator_questions::stress_questions(
         family,
         nodes_rz,

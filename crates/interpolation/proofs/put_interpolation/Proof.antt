@@ -10,8 +10,8 @@ use Rattle.definition.specs.Operators.{InterpolationCall}
 use Rattle.operator_questions.specs.Calls.{interpolationCall}
 use Rattle.triplets.specs.Strip.{Strip, strip, written}
 use Rattle.triplets.proofs.Strips.{lengths, written-keeps}
-use Rattle.sparse.specs.Triplets.{tripletsTill, shapeValue}
-use Rattle.sparse.proofs.Filling.{shape-next}
+use Rattle.triplets.specs.Triplets.{tripletsTill, shapeValue}
+use Rattle.triplets.proofs.Filling.{shape-next}
 use Rattle.interpolation.proofs.put_interpolation.Statement.{statement}
 use Rattle.interpolation.proofs.put_interpolation.Tie as tie
 

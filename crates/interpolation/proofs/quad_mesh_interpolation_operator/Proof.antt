@@ -9,9 +9,9 @@ use Rattle.definition.specs.Elements.{nodesOf}
 use Rattle.definition.specs.Questions.{accepted, asked, verdictOutcome}
 use Rattle.definition.specs.Operators.{InterpolationCall, TripletLists, tripletRoom, operatorOf, interpolationQuestions, interpolation}
 use Rattle.operator_questions.specs.Calls.{interpolationCall}
-use Rattle.sparse.specs.Triplets.{shapeValue}
-use Rattle.sparse.proofs.Filling.{shape-most, shapes-alone}
-use Rattle.sparse.proofs.Promised.{refused-kept, accepted-kept, fifth-holds, few-points, room-for}
+use Rattle.triplets.specs.Triplets.{shapeValue}
+use Rattle.triplets.proofs.Filling.{shape-most, shapes-alone}
+use Rattle.triplets.proofs.Promised.{refused-kept, accepted-kept, fifth-holds, few-points, room-for}
 use Rattle.interpolation.proofs.quad_mesh_interpolation_operator.Statement.{statement}
 use Rattle.interpolation.proofs.quad_mesh_interpolation_operator.Tie as tie
 

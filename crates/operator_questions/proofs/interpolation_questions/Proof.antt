@@ -7,7 +7,7 @@ use Rattle.definition.specs.Elements.{nodesOf}
 use Rattle.definition.specs.Lists.{each}
 use Rattle.definition.specs.Questions.{verdictOutcome}
 use Rattle.definition.specs.Operators.{InterpolationCall, tripletRoom}
-use Rattle.element_questions.specs.Points.{interpolationAsked}
+use Rattle.point_questions.specs.Points.{interpolationAsked}
 use Rattle.operator_questions.specs.Calls.{interpolationCall, listed}
 use Rattle.operator_questions.proofs.Asking.{first-refuses, rest-answers, interpolation-parts}
 use Rattle.operator_questions.proofs.interpolation_questions.Statement.{statement}

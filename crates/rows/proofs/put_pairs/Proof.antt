@@ -6,8 +6,8 @@ use native.Mathlib.Omega.{arith}
 use lib.ListN.{length, getD, length-set}
 use lib.Ieee.{nan}
 use Rattle.definition.specs.Lists.{each}
-use Rattle.products.specs.Products.{overFrom}
-use Rattle.products.proofs.Writing.{over-from-none, over-from-pair}
+use Rattle.materials.specs.Products.{overFrom}
+use Rattle.materials.proofs.Writing.{over-from-none, over-from-pair}
 use Rattle.rows.proofs.put_pairs.Statement.{statement}
 use Rattle.rows.proofs.put_pairs.Tie as tie
 

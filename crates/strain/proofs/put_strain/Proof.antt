@@ -9,8 +9,8 @@ use Rattle.definition.specs.Operators.{StrainCall}
 use Rattle.operator_questions.specs.Calls.{interpolationCall, strainCall}
 use Rattle.triplets.specs.Strip.{Strip, strip, written}
 use Rattle.triplets.proofs.Strips.{lengths, written-keeps}
-use Rattle.sparse.specs.Triplets.{tripletsTill, strainValue}
-use Rattle.sparse.proofs.Filling.{component-next}
+use Rattle.triplets.specs.Triplets.{tripletsTill, strainValue}
+use Rattle.triplets.proofs.Filling.{component-next}
 use Rattle.strain.proofs.put_strain.Statement.{statement}
 use Rattle.strain.proofs.put_strain.Tie as tie
 

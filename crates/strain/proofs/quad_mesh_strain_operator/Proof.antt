@@ -9,9 +9,9 @@ use Rattle.definition.specs.Elements.{nodesOf}
 use Rattle.definition.specs.Questions.{accepted, asked, verdictOutcome}
 use Rattle.definition.specs.Operators.{StrainCall, TripletLists, tripletRoom, operatorOf, strainQuestions, strain}
 use Rattle.operator_questions.specs.Calls.{interpolationCall, strainCall}
-use Rattle.sparse.specs.Triplets.{strainValue}
-use Rattle.sparse.proofs.Filling.{component-most}
-use Rattle.sparse.proofs.Promised.{refused-kept, accepted-kept, fifth-holds, few-points, room-for}
+use Rattle.triplets.specs.Triplets.{strainValue}
+use Rattle.triplets.proofs.Filling.{component-most}
+use Rattle.triplets.proofs.Promised.{refused-kept, accepted-kept, fifth-holds, few-points, room-for}
 use Rattle.strain.proofs.quad_mesh_strain_operator.Statement.{statement}
 use Rattle.strain.proofs.quad_mesh_strain_operator.Tie as tie
 

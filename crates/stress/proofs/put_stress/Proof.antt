@@ -9,8 +9,8 @@ use Rattle.definition.specs.Operators.{StressCall}
 use Rattle.operator_questions.specs.Calls.{interpolationCall, stressCall}
 use Rattle.triplets.specs.Strip.{Strip, strip, written}
 use Rattle.triplets.proofs.Strips.{lengths, written-keeps}
-use Rattle.sparse.specs.Triplets.{tripletsTill, stressValue}
-use Rattle.sparse.proofs.Filling.{component-next}
+use Rattle.triplets.specs.Triplets.{tripletsTill, stressValue}
+use Rattle.triplets.proofs.Filling.{component-next}
 use Rattle.stress.proofs.put_stress.Statement.{statement}
 use Rattle.stress.proofs.put_stress.Tie as tie
 

@@ -9,9 +9,9 @@ use Rattle.definition.specs.Elements.{nodesOf}
 use Rattle.definition.specs.Questions.{accepted, asked, verdictOutcome}
 use Rattle.definition.specs.Operators.{StressCall, TripletLists, tripletRoom, operatorOf, stressQuestions, stress}
 use Rattle.operator_questions.specs.Calls.{interpolationCall, stressCall}
-use Rattle.sparse.specs.Triplets.{stressValue}
-use Rattle.sparse.proofs.Filling.{component-most}
-use Rattle.sparse.proofs.Promised.{refused-kept, accepted-kept, sixth-holds, few-points, room-for}
+use Rattle.triplets.specs.Triplets.{stressValue}
+use Rattle.triplets.proofs.Filling.{component-most}
+use Rattle.triplets.proofs.Promised.{refused-kept, accepted-kept, sixth-holds, few-points, room-for}
 use Rattle.stress.proofs.quad_mesh_stress_operator.Statement.{statement}
 use Rattle.stress.proofs.quad_mesh_stress_operator.Tie as tie
 

@@ -1,0 +1,3 @@
+-- Laws that the proofs share: of a first minimum found by a walk, and of one element more.
+mod Choosing
+mod Walk

@@ -1,2 +1,0 @@
--- What holds of questions put to one point after the other.
-pub mod Asking

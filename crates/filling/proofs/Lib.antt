@@ -1,2 +1,0 @@
--- Laws that the proofs share, here and in the query.
-pub mod Filling

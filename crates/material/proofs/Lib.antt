@@ -1,3 +1,0 @@
--- Laws that the proofs share, and that the crates above may cite.
-pub mod Sixteen
-pub mod Turning

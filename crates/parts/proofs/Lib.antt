@@ -1,2 +1,0 @@
--- Laws that the proofs share, and that the crates above may cite.
-pub mod Parts

@@ -1,2 +1,0 @@
--- What the proofs of both questions cite.
-mod Dividing
