@@ -2,7 +2,7 @@
  *
  * Written by hand for target/staticlib/libsobrizenta.a, which `bindings/archive` proves and writes. Link it with the C library; it needs memcpy and memset.
  * Each function below is proved to meet its contract, in crates/exports/src/lib.rt. Nothing proves this header: it declares and explains them.
- * docs/DEFINITION.md defines every number that they hand out, docs/REFUSALS.md has the table of the refusal numbers.
+ * docs/DEFINITION.md defines every number that they hand out; SOBRIZENTA_EDITION is its edition. docs/REFUSALS.md has the table of the refusal numbers.
  *
  * THE MACHINE. x86-64 Linux, System V calling convention. double is IEEE 754 binary64. The floating-point control is the one that a C program
  * starts with: rounding to nearest, subnormal numbers kept. A program that is linked with -ffast-math may start with another, and then the bits differ.
@@ -14,7 +14,7 @@
  *   A list that is read holds a value in each place. A list that is written is lent: what it held before has no part in the answer.
  * A caller that breaks one of these rules is outside the proof. Every other argument has an answer: any number, any length, NaN and infinities too.
  *
- * ANSWERS. A call asks the questions of document 01 that concern it, in order. The first that is answered no refuses the call:
+ * ANSWERS. A call asks the questions of docs/DEFINITION.md that concern it, in order. The first that is answered no refuses the call:
  *   `question` is its number, `place` what the table of docs/REFUSALS.md says, and the counts are 0. No lent list is changed.
  * Where all are answered yes `question` and `place` are 0, and the counts and the lists have the answer. No refusal has question 0.
  *   Of each lent list the first places are written, as many as are said below. The rest stays as it was.
@@ -22,7 +22,8 @@
  *
  * THREADS. There is no state, no heap and no lock, and nothing but the answer and the lent lists is written. Calls may run at the same time in several threads
  * if no list that one of them writes is used by another; lists that are only read may be shared.
- * The stack: less than 16 KiB, and less than 128 KiB for sobrizenta_answer_job (measured with this build: 5 KB and 86 KB). */
+ * The stack: less than 16 KiB, and less than 128 KiB for sobrizenta_answer_job. `make -C bindings/c stack` measures it, by painting a stack and looking
+ * for the deepest byte that a call has changed: 3,352 bytes at most in a query or an operator, 73,376 in a job. */
 #ifndef SOBRIZENTA_H
 #define SOBRIZENTA_H
 
@@ -36,6 +37,30 @@
 #ifdef __cplusplus
 extern "C" {
 #endif
+
+/* The edition of docs/DEFINITION.md that these calls answer by. Each change of what a job or a call answers raises it. */
+#define SOBRIZENTA_EDITION 1
+
+/* Limits of the query and the operators: more of one of these is refused, by question 2, 3, 4, 5 or 6. */
+#define SOBRIZENTA_MOST_NODES 1000000
+#define SOBRIZENTA_MOST_ELEMENTS 1000000
+#define SOBRIZENTA_MOST_ITERATIONS 1000
+#define SOBRIZENTA_MOST_POINTS 1000000 /* and element numbers */
+#define SOBRIZENTA_MOST_MATERIALS 1000000
+
+/* Limits of a job file: more is refused by question 21. The limit of iterations is the query's. */
+#define SOBRIZENTA_JOB_MOST_NODES 512
+#define SOBRIZENTA_JOB_MOST_ELEMENTS 256
+#define SOBRIZENTA_JOB_MOST_POINTS 256
+
+/* The bytes that sobrizenta_answer_job must be lent: room for every listing. The longest has 30,628. */
+#define SOBRIZENTA_LISTING_ROOM 30738
+
+/* What strain and stress mean: `formulation` of their operators. */
+enum sobrizenta_formulation {
+    SOBRIZENTA_AXISYMMETRIC = 0, /* components rr, zz, tt, rz */
+    SOBRIZENTA_PLANE_STRAIN = 1  /* components xx, yy, zz, xy; so is any other number */
+};
 
 /* The numbers of the questions: `question` of an answer. F is the family. docs/REFUSALS.md has the whole table, with the places and the calls. */
 enum sobrizenta_question {
@@ -161,7 +186,8 @@ sobrizenta_operator_answer sobrizenta_interpolation_operator(
 
 /* Strain: from two displacements a node to four strains a point. Questions 1, 2, 3, 5, 7, 8, 11, and for each point 14, 16, 17.
  *
- *   formulation  0: axisymmetric, with components rr, zz, tt, rz. Any other number: plane strain, with components xx, yy, zz, xy. The shear is the engineering one.
+ *   formulation  SOBRIZENTA_AXISYMMETRIC, with components rr, zz, tt, rz, or SOBRIZENTA_PLANE_STRAIN, with components xx, yy, zz, xy. The shear is the engineering
+ *                one. Any number but 0 is plane strain.
  *   thickness    of plane strain, in the unit of length. It is not read and not tested: any value.
  *
  * Row: 4 x point + component. Column: 2 x node + displacement component, 0 for r or x and 1 for z or y. Value: one over a length.
@@ -206,7 +232,7 @@ sobrizenta_operator_answer sobrizenta_stress_operator(
 /* From the bytes of a job file to the bytes of its listing, both as docs/DEFINITION.md has them. Question 7.
  *
  *   job      the file's bytes, any number of them.
- *   listing  lent, at least 30,738 bytes, which hold the longest listing; an acceptance writes the first `bytes` of them. ASCII, with no 0 at the end.
+ *   listing  lent, at least SOBRIZENTA_LISTING_ROOM bytes; an acceptance writes the first `bytes` of them. ASCII, with no 0 at the end.
  *
  * A job that is refused has a listing too, the line `refused NUMBER PLACE`: the call is then accepted. */
 sobrizenta_job_answer sobrizenta_answer_job(

@@ -35,6 +35,9 @@ import struct
 import sys
 from collections import namedtuple
 
+# The edition of docs/DEFINITION.md that these job files and listings are of.
+EDITION = 1
+
 FAMILIES = (4, 9)
 MOST_ITERATIONS = 1000
 MOST = {"node": 512, "element": 256, "point": 256}

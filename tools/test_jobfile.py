@@ -3,6 +3,7 @@
 import contextlib
 import io
 import pathlib
+import re
 import struct
 import subprocess
 import sys
@@ -18,7 +19,7 @@ LISTING = ROOT / "crates/probe/stdout"
 KIT = ROOT / "conformance"
 
 TEXT = """\
-# document 01's example
+# the example of docs/DEFINITION.md
 family 4 iterations 0
 
 node 0 0
@@ -28,6 +29,16 @@ node .0 +2
 element 0 1 2 3  # counter-clockwise
 point 3 1
 """
+
+
+class Header(unittest.TestCase):
+    def test_the_constants_are_the_header_s(self):
+        text = (ROOT / "include/sobrizenta.h").read_text()
+        header = dict(re.findall(r"^#define SOBRIZENTA_(\w+) (\d+)", text, re.MULTILINE))
+        ours = {f"JOB_MOST_{word.upper()}S": most for word, most in jobfile.MOST.items()}
+        ours.update(EDITION=jobfile.EDITION, MOST_ITERATIONS=jobfile.MOST_ITERATIONS)
+        for name, number in ours.items():
+            self.assertEqual(number, int(header[name]), name)
 
 
 class InAFolder(unittest.TestCase):

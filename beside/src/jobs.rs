@@ -10,9 +10,10 @@ use compare::jobs::mesh::FAMILIES;
 use compare::jobs::random::Random;
 use compare::jobs::shapes::{moved_element, scatter};
 use compare::jobs::{self, searches};
+use sobrizenta::raw::SOBRIZENTA_LISTING_ROOM;
 
-/// The room that the call asks for: the longest listing.
-pub const ROOM: usize = 30_738;
+/// The room that the call asks for.
+pub const ROOM: usize = SOBRIZENTA_LISTING_ROOM;
 
 const ROUNDS: u64 = 8;
 const DAMAGED: usize = 40_000;
@@ -105,7 +106,7 @@ fn outcome(listing: &[u8]) -> Outcome {
     }
 }
 
-/// A listing shorter than the longest is refused with 7, whatever the file, and stays.
+/// A listing with less room than that is refused with 7, whatever the file, and stays.
 fn room_refused(library: &dyn Library, length: usize) -> Result<(), String> {
     let mut lent = marked_bytes(0, length);
     let answer = library.job(b"QF", &mut lent);

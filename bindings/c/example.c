@@ -1,4 +1,4 @@
-/* Document 01's worked example: a point beside a square, the strain rows of the square's centre, and a refusal. */
+/* The worked example of docs/DEFINITION.md: a point beside a square, the strain rows of the square's centre, and a refusal. */
 #include <inttypes.h>
 #include <stdio.h>
 #include <string.h>
@@ -9,8 +9,6 @@
 
 /* A list as the calls take it: a pointer, and how many places it has. */
 #define LIST(list) (list), COUNT(list)
-
-enum { PLANE_STRAIN = 1 };
 
 static const double NODES[] = {0, 0, 2, 0, 2, 2, 0, 2};
 static const uint32_t SQUARE[] = {0, 1, 2, 3};
@@ -65,7 +63,7 @@ static void print_strain(const uint32_t corners[4]) {
     double values[8 * 4];
 
     sobrizenta_operator_answer answer = sobrizenta_strain_operator(
-        4, LIST(NODES), corners, 4, LIST(element), LIST(centre), PLANE_STRAIN, 1.0,
+        4, LIST(NODES), corners, 4, LIST(element), LIST(centre), SOBRIZENTA_PLANE_STRAIN, 1.0,
         LIST(rows), LIST(columns), LIST(values));
     if (answer.question != SOBRIZENTA_ACCEPTED) {
         printf("refused %" PRIu64 " %" PRIu64 "\n", answer.question, answer.place);

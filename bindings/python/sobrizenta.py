@@ -2,8 +2,8 @@
 strain and stress, in binary64.
 
 A thin layer over the C interface of a library whose every answer is proved, to the last bit, against a written
-definition (docs/DEFINITION.md). This layer is not proved: it makes the lists, calls, and hands them out. Python 3.8 or
-newer, standard library only. Names follow cfsem-py's.
+definition (docs/DEFINITION.md; EDITION is its edition). This layer is not proved: it makes the lists, calls, and hands
+them out. Python 3.8 or newer, standard library only. Names follow cfsem-py's.
 
 Lists may be flat or nested: [0, 0, 2, 0] and [[0, 0], [2, 0]] are the same two nodes. Everything is counted from 0.
 If one of a call's lists is a numpy array, the answer's lists are numpy arrays; else they are Python's, with a tuple for
@@ -20,13 +20,23 @@ from collections import namedtuple
 from ctypes import POINTER, c_double, c_size_t, c_uint8, c_uint32, c_uint64
 from pathlib import Path
 
+# The constants of include/sobrizenta.h, which says what they are.
+EDITION = 1
+
+MOST_NODES = 1_000_000
+MOST_ELEMENTS = 1_000_000
+MOST_ITERATIONS = 1000
+MOST_POINTS = 1_000_000
+MOST_MATERIALS = 1_000_000
+
+JOB_MOST_NODES = 512
+JOB_MOST_ELEMENTS = 256
+JOB_MOST_POINTS = 256
+
+LISTING_ROOM = 30_738
+
 AXISYMMETRIC = 0
 PLANE_STRAIN = 1
-
-# Most points and element numbers that a call accepts. Of more it is refused before its lists are measured, so no more
-# room is made.
-_MOST_POINTS = 1_000_000
-_LONGEST_LISTING = 30_738
 
 QuadMeshQueryResult = namedtuple(
     "QuadMeshQueryResult",
@@ -81,7 +91,7 @@ _QUESTIONS = {
 
 
 class Refusal(ValueError):
-    """The first question that was answered no, by its number in document 01, and where."""
+    """The first question that was answered no, by its number in docs/REFUSALS.md, and where."""
 
     def __init__(self, question, place):
         words, counted = _QUESTIONS[question]
@@ -98,7 +108,7 @@ def query_quad_mesh(family, nodes_rz, elements, query_points, max_iterations):
     each, corners counter-clockwise, then for 9 the midsides and the centre. max_iterations: 0 to 1,000.
     """
     given = _floats(nodes_rz), _numbers(elements, "I"), _floats(query_points)
-    count = min(given[2].count // 2, _MOST_POINTS)
+    count = _accepted_points(given[2].count // 2)
     indices, faces, single, pairs = ("Q", count), ("B", count), ("d", count), ("d", 2 * count)
     node, element = (indices, pairs, single), (indices, pairs, pairs, single)
     lent = [_Lent(*shape) for shape in (*node, *element, indices, faces, single, pairs, single)]
@@ -168,7 +178,7 @@ def quad_mesh_stress_operator(
 
 def answer_job(job):
     """The listing of a job file, both as bytes. A job that is refused has a listing too."""
-    given, lent = _Given("B", array("B", job)), _Lent("B", _LONGEST_LISTING)
+    given, lent = _Given("B", array("B", job)), _Lent("B", LISTING_ROOM)
     answer = _library().sobrizenta_answer_job(*_spread((given, lent)))
     _raise_refusal(answer)
     return lent.values[: answer.bytes].tobytes()
@@ -178,13 +188,19 @@ def _operator(call, family, lists, more, per_node, as_numpy=False):
     nodes_rz, elements, element_indices, reference_points = lists
     given = _floats(nodes_rz), _numbers(elements, "I"), _numbers(element_indices, "Q"), _floats(reference_points)
     # A family that is not known is refused before the lists are measured.
-    places = min(given[2].count, _MOST_POINTS) * per_node * (9 if family == 9 else 4)
+    places = _accepted_points(given[2].count) * per_node * (9 if family == 9 else 4)
     lent = _Lent("Q", places), _Lent("Q", places), _Lent("d", places)
     answer = call(_unsigned(family), *_spread(given), *more, *_spread(lent))
     _raise_refusal(answer)
     as_numpy = as_numpy or any(map(_is_numpy, lists))
     triplets = (each.taken(answer.triplets, as_numpy) for each in lent)
     return QuadMeshSparseOperator(*triplets, answer.rows, answer.columns)
+
+
+def _accepted_points(points):
+    """The points for which lists are made. A call with more of them, or of element numbers, is refused before its lists
+    are measured."""
+    return min(points, MOST_POINTS)
 
 
 def _raise_refusal(answer):

@@ -1,6 +1,7 @@
 """Tests of sobrizenta.py: `make -C bindings/python test`."""
 
 import pathlib
+import re
 import struct
 import subprocess
 import sys
@@ -23,6 +24,16 @@ ELEMENTS = [(0, 1, 2, 3), (1, 4, 5, 2)]
 
 def digits(number):
     return "nan" if number != number else struct.pack(">d", number).hex()
+
+
+class Header(unittest.TestCase):
+    def test_every_constant_of_the_header_is_here(self):
+        text = (ROOT / "include/sobrizenta.h").read_text()
+        constants = re.findall(r"^#define SOBRIZENTA_(\w+) (\d+)", text, re.MULTILINE)
+        formulations = re.findall(r"enum sobrizenta_formulation {(.*?)};", text, re.DOTALL)
+        constants += re.findall(r"SOBRIZENTA_(\w+) = (\d+)", formulations[0])
+        ours = {name: value for name, value in vars(sobrizenta).items() if isinstance(value, int)}
+        self.assertEqual(ours, {name: int(number) for name, number in constants})
 
 
 class Stored(unittest.TestCase):

@@ -2,11 +2,12 @@
 //! strain and stress, in binary64.
 //!
 //! A thin and safe layer over the C interface of a library whose every answer is proved, to the last bit, against a
-//! written definition (`docs/DEFINITION.md`). This layer is not proved: it makes the lists, calls, and hands them
-//! out. Names follow cfsem-py's Rust. Every argument has an answer; there is no panic and no precondition.
+//! written definition (`docs/DEFINITION.md`, of which [`EDITION`] is the edition). This layer is not proved: it makes
+//! the lists, calls, and hands them out. Names follow cfsem-py's Rust. Every argument has an answer; there is no panic
+//! and no precondition.
 //!
 //! Lists are plain: two coordinates a node or point, one after the other; node numbers, `family` of them an element.
-//! Everything is counted from 0. `include/sobrizenta.h` explains parameters, units and limits.
+//! Everything is counted from 0. `include/sobrizenta.h` explains parameters, units and limits; [`raw`] has its constants.
 //!
 //! ```
 //! use sobrizenta::{QuadMeshView2d, quad_mesh_interpolation_operator, query_quad_mesh};
@@ -53,6 +54,9 @@ pub mod raw;
 mod refusal;
 
 pub use refusal::{Question, Refusal};
+
+/// The edition of `docs/DEFINITION.md` that the calls answer by. Each change of what a job or a call answers raises it.
+pub const EDITION: u64 = raw::SOBRIZENTA_EDITION;
 
 /// A mesh: the caller's lists, lent.
 #[derive(Clone, Copy, Debug)]
@@ -141,18 +145,17 @@ impl Structural2dFormulation {
     /// The number and the thickness that the C interface takes.
     fn numbers(self) -> (u64, f64) {
         match self {
-            Structural2dFormulation::Axisymmetric => (0, 0.0),
-            Structural2dFormulation::PlaneStrain { thickness } => (1, thickness),
+            Structural2dFormulation::Axisymmetric => (raw::SOBRIZENTA_AXISYMMETRIC, 0.0),
+            Structural2dFormulation::PlaneStrain { thickness } => (raw::SOBRIZENTA_PLANE_STRAIN, thickness),
         }
     }
 }
 
-/// Most points and element numbers that a call accepts. Of more it is refused before its lists are measured, so no
-/// more room is made.
-const MOST_POINTS: usize = 1_000_000;
-
-/// The bytes of the longest listing.
-const LONGEST_LISTING: usize = 30_738;
+/// The points for which lists are made. A call with more points or element numbers is refused before its lists are
+/// measured.
+fn accepted_points(points: usize) -> usize {
+    points.min(raw::SOBRIZENTA_MOST_POINTS)
+}
 
 /// The nearest node, element and face of each point.
 ///
@@ -163,7 +166,7 @@ pub fn query_quad_mesh(
     query_points: &[f64],
     max_iterations: u64,
 ) -> Result<QuadMeshQueryResult, Refusal> {
-    let count = (query_points.len() / 2).min(MOST_POINTS);
+    let count = accepted_points(query_points.len() / 2);
     let mut found = QuadMeshQueryResult {
         nearest_node_indices: vec![0; count],
         nearest_node_points: vec![[0.0; 2]; count],
@@ -314,7 +317,7 @@ pub fn quad_mesh_stress_operator(
 /// assert_eq!(sobrizenta::answer_job(b""), b"refused 19 0\n");
 /// ```
 pub fn answer_job(job: &[u8]) -> Vec<u8> {
-    let mut listing = vec![0; LONGEST_LISTING];
+    let mut listing = vec![0; raw::SOBRIZENTA_LISTING_ROOM];
     // SAFETY: as for the query; the list that is written is `listing`.
     let answer =
         unsafe { raw::sobrizenta_answer_job(job.as_ptr(), job.len(), listing.as_mut_ptr(), listing.len()) };
@@ -335,7 +338,7 @@ impl Lent {
     /// before the lists are measured.
     fn new(family: u64, element_indices: &[usize], per_node: usize) -> Lent {
         let nodes = if family == 9 { 9 } else { 4 };
-        let places = element_indices.len().min(MOST_POINTS) * per_node * nodes;
+        let places = accepted_points(element_indices.len()) * per_node * nodes;
         Lent { rows: vec![0; places], columns: vec![0; places], values: vec![0.0; places] }
     }
 

@@ -3,6 +3,23 @@
 
 #![allow(missing_docs)]
 
+pub const SOBRIZENTA_EDITION: u64 = 1;
+
+pub const SOBRIZENTA_MOST_NODES: usize = 1_000_000;
+pub const SOBRIZENTA_MOST_ELEMENTS: usize = 1_000_000;
+pub const SOBRIZENTA_MOST_ITERATIONS: u64 = 1000;
+pub const SOBRIZENTA_MOST_POINTS: usize = 1_000_000;
+pub const SOBRIZENTA_MOST_MATERIALS: usize = 1_000_000;
+
+pub const SOBRIZENTA_JOB_MOST_NODES: usize = 512;
+pub const SOBRIZENTA_JOB_MOST_ELEMENTS: usize = 256;
+pub const SOBRIZENTA_JOB_MOST_POINTS: usize = 256;
+
+pub const SOBRIZENTA_LISTING_ROOM: usize = 30_738;
+
+pub const SOBRIZENTA_AXISYMMETRIC: u64 = 0;
+pub const SOBRIZENTA_PLANE_STRAIN: u64 = 1;
+
 /// `sobrizenta_query_answer`
 #[repr(C)]
 #[derive(Clone, Copy, Debug, PartialEq, Eq)]

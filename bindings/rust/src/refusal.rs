@@ -3,7 +3,7 @@
 use std::error::Error;
 use std::fmt::{self, Display, Formatter};
 
-/// The question that was answered no, by its number in document 01. `docs/REFUSALS.md` has the table.
+/// The question that was answered no. `docs/REFUSALS.md` has the table, with the numbers.
 #[derive(Clone, Copy, Debug, PartialEq, Eq, Hash, PartialOrd, Ord)]
 #[non_exhaustive]
 pub enum Question {
@@ -67,7 +67,7 @@ impl Question {
         OnAxis,
     ];
 
-    /// The number in document 01, 1 to 17.
+    /// Its number, 1 to 17.
     pub fn number(self) -> u64 {
         self as u64
     }

@@ -93,25 +93,3 @@ fn in_words() {
     let refusal = Refusal { question: Question::NoNode, place: 0 };
     assert_eq!(refusal.to_string(), "refused by question 9: there is no node");
 }
-
-/// `NodeList` is `NODE_LIST` in C.
-fn name_in_c(question: Question) -> String {
-    let mut name = String::new();
-    for letter in format!("{question:?}").chars() {
-        if letter.is_ascii_uppercase() && !name.is_empty() {
-            name.push('_');
-        }
-        name.push(letter.to_ascii_uppercase());
-    }
-    name
-}
-
-#[test]
-fn the_numbers_are_those_of_the_header() {
-    let header = concat!(env!("CARGO_MANIFEST_DIR"), "/../../include/sobrizenta.h");
-    let header = std::fs::read_to_string(header).expect("the header");
-    for question in Question::ALL {
-        let line = format!("SOBRIZENTA_{} = {},", name_in_c(question), question.number());
-        assert!(header.contains(&line), "{line}");
-    }
-}
