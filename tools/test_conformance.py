@@ -1,8 +1,9 @@
-"""Tests of conformance/run: what it says of programs that are right, wrong, silent, late or missing."""
+"""Tests of conformance/run: what it says of programs that are right, wrong, silent, late or missing; and of the kit's edition."""
 
 import importlib.machinery
 import importlib.util
 import pathlib
+import re
 import subprocess
 import sys
 import unittest
@@ -37,6 +38,14 @@ for known in kit.glob("jobs/*.job"):
             time.sleep(60)
         sys.stdout.buffer.write(listing.replace(b"refused 21", b"refused 20"))
 """
+
+
+class Edition(unittest.TestCase):
+    def test_the_kit_is_for_the_header_s_edition(self):
+        header = (ROOT / "include/sobrizenta.h").read_text()
+        edition = re.search(r"^#define SOBRIZENTA_EDITION (\d+)$", header, re.MULTILINE)[1]
+        readme = (ROOT / "conformance/README.md").read_text()
+        self.assertEqual(re.findall(r"edition (\d+)", readme), [edition])
 
 
 class FirstDifference(unittest.TestCase):

@@ -4,6 +4,8 @@ mod archive;
 mod bench;
 mod clock;
 mod comparison;
+#[cfg(test)]
+mod definition;
 mod jobs;
 mod library;
 mod limits;

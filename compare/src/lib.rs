@@ -3,6 +3,7 @@
 #![forbid(unsafe_code)]
 
 pub mod cases;
+pub mod definition;
 pub mod document01;
 pub mod jobs;
 pub mod kit;

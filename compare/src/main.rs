@@ -6,7 +6,7 @@
 use compare::cases::{self, Case};
 use compare::jobs::{self, Job};
 use compare::wrong_turns::{self, Turn};
-use compare::{document01, kit, operator_turns, operators};
+use compare::{definition, document01, kit, operator_turns, operators};
 use std::io::{self, Read, Write};
 use std::path::Path;
 use std::process::ExitCode;
@@ -24,6 +24,8 @@ compare operator-turns        prints which cases tell each wrong turn
 
 compare write-kit DIR   writes the conformance kit's jobs and listings to DIR/jobs and DIR/listings
 compare kit-turns       prints which files of the kit catch each wrong program (half a minute)
+
+compare write-definition FILE   writes the answers of the blocks in docs/DEFINITION.md again
 ";
 
 fn main() -> io::Result<ExitCode> {
@@ -38,6 +40,7 @@ fn main() -> io::Result<ExitCode> {
         ["operator-turns"] => operator_turns(),
         ["write-kit", folder] => kit::write(Path::new(folder))?,
         ["kit-turns"] => print!("{}", kit::variants_text()),
+        ["write-definition", file] => fs::write(file, definition::rewritten(&fs::read_to_string(file)?))?,
         _ => {
             eprint!("{USAGE}");
             return Ok(ExitCode::FAILURE);
