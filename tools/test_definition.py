@@ -16,7 +16,7 @@ class Edition(unittest.TestCase):
     def test_the_edition_is_the_header_s_and_the_last_of_the_table(self):
         header = (ROOT / "include/sobrizenta.h").read_text()
         edition = re.search(r"^#define SOBRIZENTA_EDITION (\d+)$", header, re.MULTILINE)[1]
-        self.assertEqual(re.findall(r"^\*\*Edition (\d+)\*\*$", DOCUMENT, re.MULTILINE), [edition])
+        self.assertEqual(re.findall(r"^\*\*Edition (\d+)\.\*\*", DOCUMENT, re.MULTILINE), [edition])
         table = DOCUMENT.split("\n| edition |")[1].split("\n\n")[0]
         editions = re.findall(r"^\| (\d+) \|", table, re.MULTILINE)
         self.assertEqual(editions, [str(each) for each in range(1, int(edition) + 1)])

@@ -1,7 +1,7 @@
 //! Document 01 read on its own: the job file, its questions, the two counts and the listing.
 //!
 //! Nothing here computes a distance. The numbers of an accepted job come from outside (`published::nearest`);
-//! everything else of the listing is decided here, from the paper's words.
+//! everything else of the listing is decided here, from its words.
 
 use crate::published;
 

@@ -20,7 +20,7 @@ fn of_family(family: u8) -> Vec<Vec<u8>> {
     jobs
 }
 
-/// Probe 13: the square and a second one on its right. The numbers of family 4 are those of the paper.
+/// Probe 13: the square and a second one on its right. The numbers of family 4 are document 01's.
 fn two_squares(family: u8) -> Mesh {
     if family == 9 {
         return Mesh::grid(9, 2, 1, |at| at);

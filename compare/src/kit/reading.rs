@@ -39,8 +39,8 @@ departures! {
         WhiteSpaceSkipped = "white space between records is skipped",
         UnknownMarkSkipped = "an unknown mark is skipped",
         LowerCaseTaken = "marks in lower case are taken",
-        FamilyLater = "QF need not be first",
-        FamilyAgain = "a second QF replaces the first",
+        FamilyLater = "the family record need not be first",
+        FamilyAgain = "a second family record replaces the first",
         AnyFamilyTaken = "every family but 9 is taken as 4",
         LimitInOneByte = "the limit is the first of its two bytes",
         LimitBigEndian = "the limit is read with its greatest byte first",
@@ -50,7 +50,7 @@ departures! {
         NumbersSigned = "node numbers are read as signed; below 0 node 0 is taken",
         FloatsBigEndian = "coordinates are read with their greatest byte first",
         CoordinatesExchanged = "the two coordinates of a point are exchanged",
-        ElementOfFour = "a QE has four numbers in family 9 too",
+        ElementOfFour = "an element record has four numbers in family 9 too",
     }
     "The questions, their order and their limits" {
         FirstBeforeMark = "19 is asked before 18",
@@ -58,8 +58,8 @@ departures! {
         FamilyBeforeBody = "1 is asked before 20",
         CountBeforeBody = "21 is asked before 20",
         CountNotAsked = "21 is not asked",
-        LimitWithRecord = "4 is asked when QF is read",
-        NumbersWithRecord = "8 is asked when QE is read, of the nodes read so far",
+        LimitWithRecord = "4 is asked when the family record is read",
+        NumbersWithRecord = "8 is asked when an element record is read, of the nodes read so far",
         NumbersBeforeLimit = "8 is asked before 4",
         LimitLast = "4 is asked after 8, 9 and 10",
         NodesBeforeNumbers = "9 is asked before 8",
@@ -213,7 +213,7 @@ impl Departure {
         }
     }
 
-    /// A file without a QF; as the paper has it, one without records.
+    /// A file without a QF; as document 01 has it, one without records.
     fn ask_family(self, records: usize, read: &Read) -> Result<(), Refusal> {
         let number = match self {
             EmptyIsNoNode => return Ok(()),

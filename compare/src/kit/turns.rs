@@ -56,7 +56,7 @@ fn heading(turn: Turn) -> &'static str {
 fn words(turn: Turn) -> String {
     let text = match turn {
         Straight => unreachable!("no wrong turn"),
-        FusedBubble => "in 1 - x × x of family 9",
+        FusedBubble => "in 1 - a × a of family 9",
         FusedPoint => "in the sums of the mapped point",
         FusedJacobian => "in the sums of the Jacobian",
         FusedDistanceFirst => "in a squared distance, its first product",
@@ -76,11 +76,11 @@ fn words(turn: Turn) -> String {
 
         SumBackwards => "sums run from the last local node to the first",
         SumByPairs => "nodes 0 and 1, nodes 2 and 3, and the rest are summed apart",
-        BubbleFactored => "1 - x × x is computed as (1 - x) × (1 + x)",
+        BubbleFactored => "1 - a × a is computed as (1 - a) × (1 + a)",
         ReciprocalDeterminant => "a numerator is multiplied by 1 ÷ D",
         ReciprocalTangentSquare => "a numerator is multiplied by 1 ÷ q",
         DeterminantOfJacobian => "D is the square of the Jacobian's determinant",
-        RootByReciprocal => "the root is x × (1 ÷ root of x)",
+        RootByReciprocal => "the root is a × (1 ÷ root of a)",
         SubnormalsFlushed => "a subnormal squared distance counts as 0",
 
         StepsForgotten => "no element step is made",
