@@ -5,7 +5,7 @@ use mathlib.Core.Bool.{Bool, true, false, cond}
 use mathlib.Core.List.{[], _∷_}
 use Prim.Native.Nat.{ℕ, zero, suc, _*_}
 use native.Mathlib.Nat.{lt-irrefl}
-use lib.Dec.{T, ltb, ltb→lt, not-T}
+use lib.Dec.{T, eqb, ltb, ltb→lt, not-T}
 use lib.Ieee.{Float, nan, inf, fin, up, down, lt}
 use lib.Ieee.Bits.{is-false}
 use Rattle.definition.specs.Binary64.{plus0, one}
@@ -50,6 +50,10 @@ pub nan-first-stays : (d : ℕ → Float) (n : ℕ) → d 0 ≡ nan → pick d n
 unfolding pick
 nan-first-stays d zero h = refl
 nan-first-stays d (suc n) h = rw (pick-more d n, nan-first-stays d n h, h, lt-nan (d n))
+
+nan-before-one : pick (λ i. cond (eqb i 0) nan one) 2 ≡ 0
+unfolding searching
+nan-before-one = refl
 
 -- ---- two squared distances with one root
 

@@ -39,6 +39,12 @@ jacobian-order : jacobianOf greatestFirst (replicate 6 one) 3
 unfolding mapping
 jacobian-order = refl
 
+-- ---- each product is rounded before it is added: the square of 1 + 2^-30 rounds to 1 + 2^-29, which the first term takes away; unrounded it would leave 2^-60
+
+product-rounded : mapPoint (neg (bits 0x3ff0000000800000) ∷ neg (bits 0x3ff0000000800000) ∷ bits 0x3ff0000000400000 ∷ bits 0x3ff0000000400000 ∷ []) (one ∷ bits 0x3ff0000000400000 ∷ []) 2 ≡ at plus0 plus0
+unfolding mapping
+product-rounded = refl
+
 -- ---- `solve_2x2` divides once: (10 - 4) / 9 is the 2/3 and (5 - 8) / 9 the -1/3 by which the reference goes back, where 10 / 9 - 4 / 9 rounds to another value
 
 step-order : nextReference (record { xxi = two; xeta = one; yxi = one; yeta = two }) one plus0 (reference plus0 plus0)

@@ -78,52 +78,6 @@ pub fn query_quad_mesh<'a>(
     )
 }
 
-// The query of two plain lists, through their view. A caller of this one holds no view, and its proof has no walk.
-pub fn query_lists<'a>(
-    family: usize,
-    max_iterations: usize,
-    nodes_rz: &'a [f64],
-    elements: &'a [u32],
-    points: &[f64],
-    nearest_node_indices: &mut [usize],
-    nearest_node_points: &mut [f64],
-    nearest_node_distances: &mut [f64],
-    nearest_element_indices: &mut [usize],
-    nearest_element_reference_points: &mut [f64],
-    nearest_element_points: &mut [f64],
-    nearest_element_distances: &mut [f64],
-    nearest_face_element_indices: &mut [usize],
-    nearest_face_local_faces: &mut [u8],
-    nearest_face_reference_coordinates: &mut [f64],
-    nearest_face_points: &mut [f64],
-    nearest_face_distances: &mut [f64],
-) -> QueryAnswer
-    ensures { λ r. ⌜ QueryPromise
-        (call family «max_iterations» (now («nodes_rz» .entry)) (now (elements .entry)) (now (points .entry)))
-        (lists (now («nearest_node_indices» .entry)) (now («nearest_node_points» .entry)) (now («nearest_node_distances» .entry)) (now («nearest_element_indices» .entry)) (now («nearest_element_reference_points» .entry)) (now («nearest_element_points» .entry)) (now («nearest_element_distances» .entry)) (now («nearest_face_element_indices» .entry)) (now («nearest_face_local_faces» .entry)) (now («nearest_face_reference_coordinates» .entry)) (now («nearest_face_points» .entry)) (now («nearest_face_distances» .entry)))
-        r
-        (lists (now («nearest_node_indices» .exit)) (now («nearest_node_points» .exit)) (now («nearest_node_distances» .exit)) (now («nearest_element_indices» .exit)) (now («nearest_element_reference_points» .exit)) (now («nearest_element_points» .exit)) (now («nearest_element_distances» .exit)) (now («nearest_face_element_indices» .exit)) (now («nearest_face_local_faces» .exit)) (now («nearest_face_reference_coordinates» .exit)) (now («nearest_face_points» .exit)) (now («nearest_face_distances» .exit))) ⌝ }
-{
-    query_quad_mesh(
-        family,
-        max_iterations,
-        quad_mesh_view(nodes_rz, elements),
-        points,
-        nearest_node_indices,
-        nearest_node_points,
-        nearest_node_distances,
-        nearest_element_indices,
-        nearest_element_reference_points,
-        nearest_element_points,
-        nearest_element_distances,
-        nearest_face_element_indices,
-        nearest_face_local_faces,
-        nearest_face_reference_coordinates,
-        nearest_face_points,
-        nearest_face_distances,
-    )
-}
-
 // The interpolation operator over the view. See `interpolation::quad_mesh_interpolation_operator`.
 pub fn quad_mesh_interpolation_operator<'a>(
     family: usize,
