@@ -4,11 +4,11 @@ use mathlib.Core.Logic.{inl, inr}
 use mathlib.Core.Bool.{Bool, true, false, _&&_}
 use mathlib.Core.List.{List, [], _∷_, _++_, map, map-append, append-assoc}
 use Prim.Native.Nat.{ℕ, zero, suc, _+_, _*_, _-_, _≤_, _<_}
-use native.Mathlib.Nat.{le-refl, le-step, le-of-suc-le-suc, not-suc-le-zero, eq-or-lt-of-le, mul-le-mul-left, one-mul, add-zero, add-sub-of-le}
+use native.Mathlib.Nat.{le-refl, le-step, le-of-suc-le-suc, not-suc-le-zero, eq-or-lt-of-le, mul-le-mul-left, one-mul, add-zero}
 use native.Mathlib.Numerals.{add-one}
 use native.Mathlib.Omega.{arith}
 use lib.ListN.{length, getD, set, take, drop, length-append, length-drop, List·getD-append}
-use lib.Seq.{take-append-seam, set-append-seam, drop-cons, getD-append-add, getD-drop}
+use lib.Seq.{take-append-seam, set-append-seam, drop-cons, getD-append-add}
 use Rattle.definition.specs.Lists.{each, over, every}
 use Rattle.definition.specs.Query.{values}
 
@@ -70,10 +70,6 @@ pub over-at : {A : Type 0} (new old : List A) {i : ℕ} (d : A) → i < length n
 unfolding over
 over-at new old {i} d l = List·getD-append new (drop (length new) old) d i l
 
-pub over-past : {A : Type 0} (new old : List A) {i : ℕ} (d : A) → length new ≤ i → getD (over new old) i d ≡ getD old i d
-unfolding over
-over-past new old {i} d h = rw (← add-sub-of-le h) (getD-append-add new (drop (length new) old) (i - length new) d ∙ getD-drop (length new) old (i - length new) d)
-
 pub over-length : {A : Type 0} (new old : List A) → length new ≤ length old → length (over new old) ≡ length old
 unfolding over
 over-length new old h = simp (length-append, length-drop) (omega arith)
@@ -113,11 +109,6 @@ pub every-of : {p : ℕ → Bool} {n : ℕ} → ((i : ℕ) → i < n → p i ≡
 unfolding every
 every-of {n = zero} e = refl
 every-of {n = suc n} e = ap₂ _&&_ (every-of (λ i l. e i (le-step l))) (e n (le-refl (suc n)))
-
-pub every-same : {p q : ℕ → Bool} {n : ℕ} → ((i : ℕ) → i < n → p i ≡ q i) → every p n ≡ every q n
-unfolding every
-every-same {n = zero} e = refl
-every-same {n = suc n} e = ap₂ _&&_ (every-same (λ i l. e i (le-step l))) (e n (le-refl (suc n)))
 
 -- one number more that passes, and one that does not
 pub every-next : (p : ℕ → Bool) (n : ℕ) → every p n ≡ true → p n ≡ true → every p (n + 1) ≡ true

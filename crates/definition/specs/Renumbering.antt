@@ -161,7 +161,7 @@ pub record SameTripletLengths (l l' : TripletLists) : Type 0 where
   pub columns : length (l' .columns) ≡ length (l .columns)
   pub values : length (l' .values) ≡ length (l .values)
 
--- A list of k numbers an element goes with the elements, "and so does a list of material numbers or pairs whose count isn't that of the elements" stay: then it is the same list.
+-- A list of k numbers an element moves with the elements. A list of any other length stays the same: "and so does a list of material numbers or pairs whose count isn't that of the elements".
 pub record Attached {A : Type 0} (k n : ℕ) (to : ℕ → ℕ) (d : A) (l l' : List A) : Type 0 where
   pub moves : length l ≡ k * n → Moved k n to same d l l'
   pub stays : (length l ≡ k * n → ⊥) → l' ≡ l

@@ -25,7 +25,7 @@ const SINGULAR: f64 = 1.4210854715202004e-14;
 // 2^-104: a step whose squared length is at most this is the last.
 const SHORT_SQUARE: f64 = 4.930380657631324e-32;
 
-// Whether two references are one, to the bit.
+// Whether two references have the same bits.
 fn same_reference(a: Reference, b: Reference) -> bool
     ensures { λ r. ⌜ (r ≡ true → a ≡ b) ⌝ }
 {
@@ -86,7 +86,7 @@ fn next_reference(j: JacobianMatrix, det: f64, u: f64, v: f64, r: Reference) -> 
     Reference { xi, eta }
 }
 
-// `frame_at` once more, which the face search calls. So each of the two has one caller in the query, and the compiler puts it in line.
+// The same as `frame_at`, which the face search calls: each of the two has one caller in the query, and the compiler inlines it.
 fn frame_of(count: usize, xy: &[f64; 18], r: Reference) -> Frame
     ensures { λ f. ⌜ (f .point ≡ pointAt (element count (now (xy .entry))) r) × (f .jacobian ≡ jacobianAt (element count (now (xy .entry))) r) ⌝ }
 {

@@ -24,7 +24,7 @@ pub struct FaceBest {
     pub square: f64,
 }
 
-// `point_at`. Family 4 by its number is short enough for the compiler to put it in line.
+// `point_at`, with the number 4 written out for family 4: so it is short enough for the compiler to inline.
 fn point_of(count: usize, xy: &[f64; 18], r: Reference) -> Point
     ensures { λ p. ⌜ p ≡ pointAt (element count (now (xy .entry))) r ⌝ }
 {

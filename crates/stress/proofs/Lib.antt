@@ -1,1 +1,2 @@
+-- The values of a point's stress, as the definition has them.
 mod StressValues

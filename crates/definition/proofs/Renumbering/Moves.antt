@@ -1,4 +1,4 @@
--- Records that move: place j of record i becomes place j of record `to i`, and every number is such a place, by its quotient and remainder. So there is just one moved list. Assumes nothing.
+-- Records that move: place j of record i becomes place j of record `to i`, and every number is such a place, by its quotient and remainder. Assumes nothing.
 use mathlib.Core.Path.{_≡_, refl, sym, ap, ap₂, _∙_}
 use mathlib.Core.Bool.{Bool, true, false}
 use mathlib.Core.List.{List}
@@ -8,7 +8,7 @@ use native.Mathlib.Decide.{ℕ-discrete}
 use native.Mathlib.Omega.{arith}
 use lib.Arith.{digits-div, digits-mod}
 use lib.ListN.{length, getD}
-use lib.Seq.{getD-take, getD-drop, ext-getD}
+use lib.Seq.{getD-take, getD-drop}
 use lib.Ieee.{Float, nan}
 use Rattle.definition.specs.Lists.{every}
 use Rattle.definition.specs.Elements.{nodesOf}
@@ -71,7 +71,7 @@ moved-point m l = λ s. record { x = moved-pair m l .0 s; y = moved-pair m l .1 
 pub attached-length : {A : Type 0} {k n : ℕ} {to : ℕ → ℕ} {d : A} {l l' : List A} → Attached k n to d l l' → length l' ≡ length l
 attached-length {k = k} {n} {l = l} h = elim (ℕ-discrete (length l) (k * n)) [ yes e ↦ h .moves e .same-length | no f ↦ ap length (h .stays f) ]
 
--- the moved list, computed, has its records moved, and no other list has
+-- the moved list, computed, has its records moved
 module _ {A : Type 0} {k n : ℕ} {to from : ℕ → ℕ} {g : A → A} {d : A} {l : List A} (some : 0 < k) (π : Permutation n to from) (whole : length l ≡ k * n) where
   pub moved-computed : Moved k n to g d l (moveList k from g d l)
   unfolding moveList
@@ -81,17 +81,6 @@ module _ {A : Type 0} {k n : ℕ} {to from : ℕ → ℕ} {g : A → A} {d : A} 
         values-at _ d (rw whole (place-inside (π .to-in i li) lj))
         ∙ ap (λ s. g (getD l s d)) (within-at k from (to i) j lj ∙ ap (λ x. k * x + j) (π .from-to i li));
   }
-
-  pub moved-unique : {l' : List A} → Moved k n to g d l l' → l' ≡ moveList k from g d l
-  unfolding moveList
-  moved-unique {l'} m = ext-getD d l' (moveList k from g d l) (m .same-length ∙ sym (values-length _ (length l))) at
-    where
-      at : (s : ℕ) → s < length l' → getD l' s d ≡ getD (moveList k from g d l) s d
-      at s h =
-          let inside : s < length l = rw (m .same-length) at h in
-          let part : s / k < n = part-inside some (rw whole at inside) in
-          let place : s ≡ k * to (from (s / k)) + s % k = rw (π .to-from (s / k) part) (sym (div-add-mod s k)) in
-          ap (λ t. getD l' t d) place ∙ m .entries (from (s / k)) (s % k) (π .from-in (s / k) part) (mod-lt s some) ∙ sym (values-at _ d inside)
 
 -- the records of the connectivity
 pub node-at : (m : Mesh) (e j : ℕ) → j < nodesOf (m .family) → nodeOf m e j ≡ getD (m .elements) (nodesOf (m .family) * e + j) 0

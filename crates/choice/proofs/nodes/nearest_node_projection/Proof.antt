@@ -1,3 +1,4 @@
+-- `nearest_node_projection`: the nearest node's number, its point and the root of its squared distance.
 use borrow.Author.Needs.{needs}
 use Rattle.choice.proofs.nodes.nearest_node_projection.Statement.{statement}
 use Rattle.choice.proofs.nodes.nearest_node_projection.Tie as tie

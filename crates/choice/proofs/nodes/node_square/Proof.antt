@@ -1,3 +1,4 @@
+-- `node_square`: the squared distance of the target from one node.
 use borrow.Author.Needs.{needs}
 use Rattle.choice.proofs.nodes.node_square.Statement.{statement}
 use Rattle.choice.proofs.nodes.node_square.Tie as tie

@@ -1,8 +1,8 @@
 -- `sobrizenta_stress_operator` meets its contract: the call under it keeps its promise, and its answer is turned into numbers. Assumes nothing.
 use Rattle.numbers.specs.Numbers.{operatorNumbers}
 use Rattle.numbers.proofs.Kept.{kept}
-use Rattle.exports.proofs.sobrizenta_stress_operator.Statement.{statement}
-use Rattle.exports.proofs.sobrizenta_stress_operator.Tie as tie
+use Rattle.operator_exports.proofs.sobrizenta_stress_operator.Statement.{statement}
+use Rattle.operator_exports.proofs.sobrizenta_stress_operator.Tie as tie
 
 pub sobrizenta-stress-operator-spec : {M : Type 1} → statement M
 sobrizenta-stress-operator-spec =
