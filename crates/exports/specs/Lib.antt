@@ -1,3 +1,4 @@
 -- The words of this crate's contracts.
 pub mod Query
+pub mod Operators
 pub mod Job

@@ -1,2 +1,1 @@
--- The gathered element that two parameters make.
 pub mod Element
