@@ -1,7 +1,7 @@
 /* Sobrizenta: the nearest node, element and face of each point on a mesh of quadrilaterals, and sparse rows for interpolation, strain and stress.
  *
  * Written by hand for target/staticlib/libsobrizenta.a, which `bindings/archive` proves and writes. Link it with the C library; it needs memcpy and memset.
- * Each function below is proved to meet its contract, in the crates that `bindings/archive` names. Nothing proves this header: it declares and explains them.
+ * Each function below is proved to meet its contract, in crates/exports and crates/operator_exports. Nothing proves this header: it declares and explains them.
  * docs/DEFINITION.md defines every number that they hand out; SOBRIZENTA_EDITION is its edition. docs/REFUSALS.md has the table of the refusal numbers.
  *
  * THE MACHINE. x86-64 Linux, System V calling convention. double is IEEE 754 binary64. The floating-point control is the one that a C program
@@ -23,7 +23,7 @@
  * THREADS. There is no state, no heap and no lock, and nothing but the answer and the lent lists is written. Calls may run at the same time in several threads
  * if no list that one of them writes is used by another; lists that are only read may be shared.
  * The stack: less than 16 KiB, and less than 128 KiB for sobrizenta_answer_job. `make -C bindings/c stack` measures it, by painting a stack and looking
- * for the deepest byte that a call has changed: 3,352 bytes at most in a query or an operator, 73,376 in a job. */
+ * for the deepest byte that a call has changed: 3,352 bytes at most in a query or an operator, 86,696 in a job. */
 #ifndef SOBRIZENTA_H
 #define SOBRIZENTA_H
 

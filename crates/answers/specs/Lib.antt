@@ -1,1 +1,2 @@
+-- What storing a point's answer makes of the lent lists.
 pub mod Stored

@@ -4,8 +4,8 @@ use definition::FaceReference;
 ghost use mathlib.Core.Path.{_≡_};
 ghost use Rattle.definition.specs.Elements.{faceReferenceOf};
 
-// The point of a face at s, from -1 to 1, and the direction d(xi, eta) / ds there. The faces run counter-clockwise: 0 is the bottom, 1 the right, 2 the top and 3,
-// as which every greater number counts, the left.
+// The point of a face at s, from -1 to 1, and the direction d(xi, eta) / ds there. The faces run counter-clockwise: 0 is the bottom, 1 the right, 2 the top and 3
+// the left; every greater number counts as 3.
 pub fn face_reference(local_face: u8, s: f64) -> FaceReference
     ensures { λ r. ⌜ r ≡ faceReferenceOf «local_face» s ⌝ }
 {

@@ -1,4 +1,3 @@
 -- The words of this crate's contracts.
 pub mod Query
-pub mod Operators
 pub mod Job

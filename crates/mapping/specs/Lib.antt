@@ -1,1 +1,2 @@
+-- The gathered element that two parameters make.
 pub mod Element

@@ -1,4 +1,4 @@
-// The frame of an element at a reference, as the searches and the questions on a point ask for it: its point together with the Jacobian. It knows the shape numbers and the map, and nothing of a mesh.
+// An element at a reference, as the searches and the questions on a point ask for it: its point, and its frame, which is the point together with the Jacobian. It knows the shape numbers and the map, and nothing of a mesh.
 // A whole arm for each family, from N to the sums, is straight code; (xi, eta) goes below as two numbers, which the compiler keeps in registers.
 
 use definition::JacobianMatrix;
@@ -7,6 +7,17 @@ use definition::Reference;
 ghost use mathlib.Core.Path.{_≡_};
 ghost use Rattle.definition.specs.Mapping.{pointAt, jacobianAt};
 ghost use Rattle.mapping.specs.Element.{element};
+
+// `point_at`, with the number 4 written out for family 4: so it is short enough for the compiler to inline.
+pub fn point_of(count: usize, xy: &[f64; 18], r: Reference) -> Point
+    ensures { λ p. ⌜ p ≡ pointAt (element count (now (xy .entry))) r ⌝ }
+{
+    if count == 4 {
+        crate::point_at(4, xy, r)
+    } else {
+        crate::point_at(count, xy, r)
+    }
+}
 
 // What one step of a search needs: the point of an element at a reference, and the Jacobian there.
 pub struct Frame {

@@ -10,6 +10,7 @@ pub use frames::Frame;
 pub use frames::frame_at;
 pub use frames::frame4;
 pub use frames::frame9;
+pub use frames::point_of;
 pub use gradients::grad_phys;
 pub use jacobians::det_j;
 pub use jacobians::face_tangent;
@@ -86,18 +87,26 @@ fn jacobian_sum(count: usize, coords: &[f64; 18], grad: &[f64; 18]) -> JacobianM
     jac
 }
 
-// The sum of N times x, and of N times y. Where the family is a number that the compiler knows, the loop becomes straight code.
+// The sum of N times x, and of N times y. Each family has an arm of its own, where the count is a number that the compiler knows: the loops become straight code.
 pub fn map_point(family: usize, coords: &[f64; 18], n: &[f64; 9]) -> Point
     ensures { λ r. ⌜ r ≡ mapPoint (now (coords .entry)) (now (n .entry)) (nodesOf family) ⌝ }
 {
-    point_sum(elements::nodes_per_element(family), coords, n)
+    if family == 9 {
+        point_sum(9, coords, n)
+    } else {
+        point_sum(4, coords, n)
+    }
 }
 
 // The sum of each coordinate times each gradient.
 pub fn jacobian(family: usize, coords: &[f64; 18], grad: &[f64; 18]) -> JacobianMatrix
     ensures { λ r. ⌜ r ≡ jacobianOf (now (coords .entry)) (now (grad .entry)) (nodesOf family) ⌝ }
 {
-    jacobian_sum(elements::nodes_per_element(family), coords, grad)
+    if family == 9 {
+        jacobian_sum(9, coords, grad)
+    } else {
+        jacobian_sum(4, coords, grad)
+    }
 }
 
 // ---- at a reference
@@ -107,14 +116,14 @@ fn point4(coords: &[f64; 18], xi: f64, eta: f64) -> Point
     ensures { λ r. ⌜ r ≡ pointAt (element 4 (now (coords .entry))) (record { xi = xi; eta = eta }) ⌝ }
 {
     let n = elements::shape(4, xi, eta);
-    map_point(4, coords, &n)
+    point_sum(4, coords, &n)
 }
 
 fn point9(coords: &[f64; 18], xi: f64, eta: f64) -> Point
     ensures { λ r. ⌜ r ≡ pointAt (element 9 (now (coords .entry))) (record { xi = xi; eta = eta }) ⌝ }
 {
     let n = elements::shape(9, xi, eta);
-    map_point(9, coords, &n)
+    point_sum(9, coords, &n)
 }
 
 // The point of an element at a reference.

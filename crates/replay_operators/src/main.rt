@@ -260,7 +260,7 @@ fn answer_interpolation<'a>(
     let mut rows = [UNTOUCHED; 1152];
     let mut columns = [UNTOUCHED; 1152];
     let mut values = [UNTOUCHED_VALUE; 1152];
-    let answer = exports::sobrizenta_interpolation_operator(
+    let answer = operator_exports::sobrizenta_interpolation_operator(
         family_of(case),
         nodes_rz,
         elements,
@@ -283,7 +283,7 @@ fn answer_strain<'a>(
     let mut rows = [UNTOUCHED; 1152];
     let mut columns = [UNTOUCHED; 1152];
     let mut values = [UNTOUCHED_VALUE; 1152];
-    let answer = exports::sobrizenta_strain_operator(
+    let answer = operator_exports::sobrizenta_strain_operator(
         family_of(case),
         nodes_rz,
         elements,
@@ -311,7 +311,7 @@ fn answer_stress<'a>(
     let mut rows = [UNTOUCHED; 1152];
     let mut columns = [UNTOUCHED; 1152];
     let mut values = [UNTOUCHED_VALUE; 1152];
-    let answer = exports::sobrizenta_stress_operator(
+    let answer = operator_exports::sobrizenta_stress_operator(
         family_of(case),
         nodes_rz,
         elements,

@@ -5,8 +5,7 @@ use lib.ListN.{getD}
 use lib.Ieee.{Float, nan}
 use Rattle.definition.specs.Lists.{each, over}
 use Rattle.definition.specs.Binary64.{plus0}
-use Rattle.definition.specs.Elements.{ofFour}
-use Rattle.definition.specs.Rows.{ofTwo}
+use Rattle.definition.specs.Rows.{ofTwo, ofFour}
 
 -- "by point, component, local node, displacement component": the values of a point, of an element of F nodes
 unfoldable pub valuesOf : (ℕ → ℕ → ℕ → Float) → ℕ → List Float

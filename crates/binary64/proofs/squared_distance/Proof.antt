@@ -1,3 +1,4 @@
+-- `squared_distance` is the definition's sum of two squares, as it stands.
 use mathlib.Core.Path.{refl}
 use Rattle.definition.specs.Binary64.{squaredDistance}
 use Rattle.binary64.proofs.squared_distance.Statement.{statement}

@@ -19,9 +19,6 @@ sq-lt-back a b h = lt-of-not-le (λ (g : b ≤ a). not-le-of-lt h (mul-le-mul g 
 pub double : (r : ℕ) → 2 * r * (2 * r) ≡ 4 * (r * r)
 double r = omega arith
 
-pub next-sq : (a : ℕ) → (a + 1) * (a + 1) ≡ a * a + 2 * a + 1
-next-sq a = omega arith
-
 pub whole-unique : (a b n : ℕ) → Whole a n → Whole b n → a ≡ b
 whole-unique a b n p q =
     let u : a < b + 1 = sq-lt-back a (b + 1) (lt-of-le-of-lt (p .below) (q .above)) in

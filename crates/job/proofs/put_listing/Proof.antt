@@ -1,11 +1,16 @@
 -- `put_listing` meets its contract: the line of a refusal of the records, or the listing of the job that was read. Assumes nothing.
-use mathlib.Core.Path.{_≡_, sym, _∙_}
+use mathlib.Core.Path.{_≡_, sym}
+use mathlib.Core.List.{List}
+use Prim.Native.Nat.{ℕ, _≤_}
 use native.Mathlib.Omega.{arith}
 use borrow.Author.Needs.{needs}
-use Rattle.definition.specs.Listing.{listing}
-use Rattle.job.proofs.Read.{refused-is, JobRead, job-read, taken-within}
+use lib.ListN.{length, take, length-take}
+use Rattle.definition.specs.Job.{listing}
 use Rattle.job.proofs.put_listing.Statement.{statement}
 use Rattle.job.proofs.put_listing.Tie as tie
+
+taken-within : {A : Type 0} (l : List A) {n : ℕ} → length (take n l) ≡ n → n ≤ length l
+taken-within l {n} e = omega (arith, length-take n l)
 
 prefix-nodes : tie.Need-array-share-prefix-nodes
 prefix-nodes c = taken-within _ (rw (c .before .read2 .given .1) at (c .before .before .before .read-job .ensures .1) .5)

@@ -1,8 +1,9 @@
 -- `put_query` meets its contract: the query's promise, of the program's own lists, gives the listing. Assumes nothing.
 use borrow.Author.Needs.{needs}
 use lib.Ieee.{ofBits}
-use Rattle.definition.specs.Query.{queryCall, queryLists, lengthsOf}
+use Rattle.definition.specs.Job.{ownLists}
 use Rattle.listing.specs.Page.{page}
+use Rattle.query.specs.Query.{call}
 use Rattle.job.proofs.Answers.{promised-listing}
 use Rattle.job.proofs.put_query.Statement.{statement}
 use Rattle.job.proofs.put_query.Tie as tie

@@ -1,3 +1,4 @@
+-- `read_part` reads no more bytes than the buffer has left.
 use mathlib.Core.Path.{sym}
 use native.Mathlib.Omega.{arith}
 use borrow.Author.Needs.{needs}

@@ -1,8 +1,8 @@
 -- `search::element_search::element_walk` meets its contract: the steps left from where it stands end where those from the seed do, and what is remembered ended the steps of a seed. Assumes nothing.
 use mathlib.Core.Path.{_≡_, refl, sym, _∙_}
 use native.Mathlib.Omega.{arith}
-use Rattle.definition.specs.Search.{elementStep, stepped}
-use Rattle.definition.proofs.Search.{stepped-none, stepped-more}
+use Rattle.definition.specs.Search.{elementStep, walked}
+use Rattle.definition.proofs.Search.{walked-none, walked-more}
 use Rattle.mapping.specs.Element.{element}
 use Rattle.search.specs.Steps.{Remembered}
 use Rattle.search.proofs.Memory.{ended}
@@ -10,24 +10,24 @@ use Rattle.search.proofs.element_search.element_walk.Statement.{stateme
 use Rattle.search.proofs.element_search.element_walk.Tie as tie
 
 abbrev Inv-loop : tie.InvT-loop
-Inv-loop family xy target left₀ r₀ memory₀ left r memory =
-    (stepped (elementStep (element family xy) target) left r ≡ stepped (elementStep (element family xy) target) left₀ r₀) × Remembered (elementStep (element family xy) target) (memory .known) (memory .from) (memory .to)
+Inv-loop count xy target left₀ r₀ memory₀ left r memory =
+    (walked (elementStep (element count xy) target) left r ≡ walked (elementStep (element count xy) target) left₀ r₀) × Remembered (elementStep (element count xy) target) (memory .known) (memory .from) (memory .to)
 
 abbrev μ-loop : tie.MeasureT-loop
-μ-loop family xy target left₀ r₀ memory₀ left r memory = left
+μ-loop count xy target left₀ r₀ memory₀ left r memory = left
 
 loop-again : tie.Need-loop-again Inv-loop μ-loop
 loop-again c =
     let step = c .before .before in
     let turn = step .before .before .before in
     let l = turn .before .loop in
-    (sym (stepped-more _ (l .left) (l .r) _ (turn .loop-test .taken) (step .element-step .ensures .1 (c .if2 .left))) ∙ l .inv .0, l .inv .1)
+    (sym (walked-more _ (l .left) (l .r) _ (turn .loop-test .taken) (step .element-step .ensures .1 (c .if2 .left))) ∙ l .inv .0, l .inv .1)
 
 returns : tie.Need-returns Inv-loop μ-loop
 returns c =
     let l = c .before .loop in
     let z : l .left ≡ 0 = omega arith in
-    (sym (stepped-none _ (l .r)) ∙ (rw z at (l .inv .0)), l .inv .1)
+    (sym (walked-none _ (l .r)) ∙ (rw z at (l .inv .0)), l .inv .1)
 
 returns-2 : tie.Need-returns-2 Inv-loop μ-loop
 returns-2 c =
