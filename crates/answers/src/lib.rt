@@ -1,6 +1,8 @@
 // The twelve lent lists of a query: whether they have room for the answers, and the answer of one point in its places.
 // It knows the definition and the lengths of lists: no mesh, no search and no question. A list of points or references holds two numbers a point, in the mesh's unit of length for points.
 // Every call has an answer for every list and every number: lengths are divided and no product is made, and a value without a place is left out.
+#![tactic(auto)]
+
 ghost use Rattle.std.specs.Prelude.{◌≡◌, ◌&&◌, ◌*◌, leb, set};
 ghost use Rattle.answers.specs.Stored.{pair_stored, node_stored, element_stored, face_stored};
 

@@ -1,5 +1,7 @@
 // How questions are put: one after the other until the first no. And whether a list is whole records, which several of them ask.
 // It knows the definition and nothing of a mesh or a call.
+#![tactic(auto)]
+
 ghost use Rattle.std.specs.Prelude.{◌≡◌, [], ◌∷◌};
 ghost use Rattle.definition.specs.Questions.{ask, asked, onward, verdict_outcome, whole};
 

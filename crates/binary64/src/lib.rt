@@ -1,5 +1,7 @@
 // What is done with one or two floats: the squared distance of two points, the clamp, whether two numbers are one, and a bit pattern's number.
 // It knows the definition and the bits of a float; nothing of an element, a list or a file.
+#![tactic(auto)]
+
 ghost use Rattle.std.specs.Prelude.{◌≡◌, true};
 ghost use Rattle.std.specs.Float.{binary64};
 ghost use Rattle.std.specs.Float.Ieee.{of_bits};

@@ -1,5 +1,6 @@
 // The twelve values of one point: the nearest node, and the choice among all elements and faces.
 // It knows the definition, the searches, the root and the mesh; nothing of lent lists.
+#![tactic(auto)]
 
 mod nearest;
 mod nodes;

@@ -1,4 +1,5 @@
 // The plain types that the crates share. There is no function here: specs/ is the written definition and proofs/ what holds it.
+#![tactic(auto)]
 
 // A point of the plane of the mesh, (r, z) or (x, y), in the mesh's unit of length. The Rust's `[F; 2]`.
 #[derive(Drop)]

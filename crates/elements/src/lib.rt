@@ -1,6 +1,7 @@
 // The two families of elements on the reference square: how many nodes they have, their shape numbers and gradients, and the faces.
 // It knows the definition alone, and nothing of a mesh: no coordinates and no node numbers.
 // A family is a number: 9, and every other number counts as 4. What a list holds past its family's nodes is 0.
+#![tactic(auto)]
 
 mod faces;
 mod families;

@@ -1,6 +1,8 @@
 // The C interface of the query and of the job, over slices and numbers, under plain names; that of the operators is in `operator_exports`. include/sobrizenta.h declares them all and explains every parameter.
 // It knows the public calls and which numbers stand for their types. It asks no question of its own, so a refusal is the call's, and its answer is the call's in numbers.
 // In C a slice is two parameters, a pointer and a length.
+#![tactic(auto)]
+
 ghost use Rattle.query.specs.Query.{call, lists};
 ghost use Rattle.exports.specs.Query.{QueryExported};
 ghost use Rattle.exports.specs.Job.{JobExported};

@@ -1,6 +1,8 @@
 // The interpolation operator: the shape numbers of each point as a sparse row, in three lent lists of rows, columns and values. A refusal leaves the lists as they were.
 // A mesh is three parameters: its family, 4 or 9; `nodes_rz`, two coordinates a node; and `elements`, the connectivity, F node numbers an element.
 // `element_indices` names the element of each point, and `reference_points` holds two reference coordinates a point.
+#![tactic(auto)]
+
 ghost use Rattle.std.specs.Prelude.{◌≡◌, [], ◌≤◌, length};
 ghost use Rattle.definition.specs.Operators.{InterpolationPromise};
 ghost use Rattle.operator_questions.specs.Calls.{interpolation_call};

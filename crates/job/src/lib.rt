@@ -1,4 +1,6 @@
 // From a job's bytes to its listing's bytes: `answer_job`. It knows the definition, the records of a job file, the query and the lines of its answer.
+#![tactic(auto)]
+
 ghost use Rattle.std.specs.Prelude.{◌≡◌, map, ◌≤◌, length};
 ghost use Rattle.std.specs.Float.{binary64};
 ghost use Rattle.std.specs.Float.Ieee.{of_bits};

@@ -1,1 +1,2 @@
 // Long theorems over the definition. There is no function here.
+#![tactic(auto)]

@@ -1,6 +1,7 @@
 // The listing's lines: the first line, a point's line and a refusal, each put into a lent output from a place on, and those of a query's answer and lists.
 // It knows the text of a line and the lists of an answer, and nothing of a mesh or a job.
 // Every call answers the place of the next byte. Bytes that have no room are left out, so no call asks anything of the place or of the output's length.
+#![tactic(auto)]
 
 mod lines;
 

@@ -1,5 +1,7 @@
 // What a place of a lent list holds, and where a part of a list lies. It knows the definition and lengths; nothing of what a list is for.
 // Every call has an answer for every number: past a list's end a number is 0 and a float is NaN, as the definition reads them, and a part ends with the list.
+#![tactic(auto)]
+
 ghost use Rattle.std.specs.Prelude.{◌≡◌, ◌+◌, ◌*◌, ◌^◌, ◌<◌, min, get_or};
 ghost use Rattle.std.specs.Float.{nan};
 ghost use Rattle.definition.specs.Mapping.{first, second};

@@ -1,6 +1,7 @@
 // The map from the reference square to the plane: points and Jacobians of one element, and what they give. The Rust's mapping.rs.
 // It knows an element by its family and by the coordinates of its nodes, and nothing of a mesh: no node numbers, no questions.
 // Coordinates and gradients stand two a node; the places past the family's nodes are not read. Sums start at +0 and run in local node order.
+#![tactic(auto)]
 
 mod frames;
 mod gradients;

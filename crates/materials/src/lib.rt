@@ -1,5 +1,7 @@
 // The materials of a table: an element's material, turned by its pair (c, s), and its product with the strains of a point. It knows the definition, how a list is read and how many nodes a family has: no geometry and no triplet.
 // A material is sixteen numbers, four rows of four, for the components rr, zz, tt and rz (xx, yy, zz and xy). Every call has an answer for every list and every number.
+#![tactic(auto)]
+
 ghost use Rattle.std.specs.Prelude.{◌≡◌, ◌&&◌, ◌*◌, ◌≤◌, ◌<◌, length};
 ghost use Rattle.std.specs.Float.Ieee.{eq};
 ghost use Rattle.definition.specs.Binary64.{plus0, one};

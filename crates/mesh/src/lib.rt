@@ -1,6 +1,8 @@
 // What is read of the lists of a mesh: an element's row and coordinates, and how many elements repeat a node. It knows the definition and the families: no question, no search and no job file.
 // A mesh is three parameters: its family; `nodes_rz`, two coordinates a node in the mesh's unit of length; and `elements`, the connectivity, F node numbers an element.
 // Element and node numbers start at 0. Every call has an answer for every list and every number.
+#![tactic(auto)]
+
 ghost use Rattle.std.specs.Prelude.{◌≡◌, [], ◌∷◌, ◌+◌, ◌*◌, ◌≤◌, ◌<◌, ltb, length, get_or, drop};
 ghost use Rattle.definition.specs.Elements.{nodes_of};
 ghost use Rattle.definition.specs.Lists.{each, over};

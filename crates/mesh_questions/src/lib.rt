@@ -1,5 +1,7 @@
 // The questions on the lists of a mesh, which a query and the operators ask. It knows the definition and the families: nothing of a call.
 // A mesh is three parameters: its family; `nodes_rz`, two coordinates a node in the mesh's unit of length; and `elements`, the connectivity, F node numbers an element.
+#![tactic(auto)]
+
 ghost use Rattle.std.specs.Prelude.{◌≡◌, [], ◌∷◌, ◌^◌, ◌<◌, leb};
 ghost use Rattle.definition.specs.Mesh.{Mesh, element_count};
 ghost use Rattle.definition.specs.Questions.{ask, asked, verdict_outcome, family_known, nodes_whole, elements_whole, node_numbers};

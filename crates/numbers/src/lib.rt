@@ -1,5 +1,7 @@
 // Between the numbers of a C caller and the types of the calls: an answer as a struct of numbers, a number as a formulation, a number as a yes or a no.
 // It knows the definition alone; nothing of a list.
+#![tactic(auto)]
+
 ghost use Rattle.std.specs.Prelude.{◌≡◌};
 ghost use Rattle.definition.specs.Query.{query_outcome};
 ghost use Rattle.definition.specs.Operators.{operator_outcome};

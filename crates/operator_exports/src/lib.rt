@@ -2,6 +2,8 @@
 // An object of their own: in one object with the query the questions on a point and the face search would share a frame, which the compiler then calls in place of inlining it.
 // It knows the public calls and which numbers stand for their types. It asks no question of its own, so a refusal is the call's, and its answer is the call's in numbers.
 // In C a slice is two parameters, a pointer and a length.
+#![tactic(auto)]
+
 ghost use Rattle.operator_questions.specs.Calls.{interpolation_call, strain_call, stress_call};
 ghost use Rattle.numbers.specs.Numbers.{formulation_of, yes_of};
 ghost use Rattle.operator_exports.specs.Operators.{InterpolationExported, StrainExported, StressExported};

@@ -1,5 +1,7 @@
 // The questions of the three operators, in document 01's order: first those on the lists, then those of one point after the other.
 // A mesh is three parameters: its family; `nodes_rz`, two coordinates a node; and `elements`, the connectivity. `room` is the answer of question 7.
+#![tactic(auto)]
+
 ghost use Rattle.std.specs.Prelude.{◌≡◌, not, ◌&&◌, ◌||◌, [], ◌∷◌, ◌++◌, ◌*◌, ◌/◌, ◌%◌, leb, eqb, length};
 ghost use Rattle.definition.specs.Elements.{nodes_of};
 ghost use Rattle.definition.specs.Mesh.{Mesh};

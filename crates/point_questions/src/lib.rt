@@ -1,6 +1,7 @@
 // The questions that the operators ask of one point after the other: 14 for interpolation, and 14, 15, 16 and 17 for strain and stress. The first no is the answer, with the point as its place.
 // It knows the definition, the mesh and an element's map; nothing of a triplet.
 // A mesh is three parameters: its family; `nodes_rz`, two coordinates a node; and `elements`, the connectivity. `element_indices` names the element of each point, and `reference_points` holds two reference coordinates a point.
+#![tactic(auto)]
 
 mod element_questions;
 

@@ -1,5 +1,7 @@
 // Reads a job file from standard input and prints its listing.
 // The first 23,595 bytes of a file decide its listing (`listing_prefix` in crates/job/proofs), and the buffer holds more, so every file is answered as if it had been read whole.
+#![tactic(auto)]
+
 use definition::JobAnswer;
 use libc::{STDIN_FILENO, STDOUT_FILENO};
 

@@ -1,6 +1,8 @@
 // The query: the nearest node, element and face of each point, in twelve lent lists.
 // It knows the definition, the questions, the answer of one point, and the lists, their room and their places; nothing of a job file.
 // `family` is 4 or 9; `nodes_rz`, `points` and every list of points hold two coordinates each, in the mesh's unit of length; `elements` is the connectivity, F node numbers an element.
+#![tactic(auto)]
+
 ghost use Rattle.std.specs.Prelude.{◌≡◌, cond, [], ◌≤◌};
 ghost use Rattle.std.specs.Float.Ieee.{eq};
 ghost use Rattle.definition.specs.Binary64.{plus0};

@@ -1,5 +1,7 @@
 // The questions of a query: those on its mesh, and between and after them its own. It knows the definition and the questions on a mesh: no search, no lent output and no job file.
 // A mesh is three parameters: its family; `nodes_rz`, two coordinates a node in the mesh's unit of length; and `elements`, the connectivity, F node numbers an element.
+#![tactic(auto)]
+
 ghost use Rattle.std.specs.Prelude.{◌≡◌, [], ◌∷◌, ◌++◌};
 ghost use Rattle.definition.specs.Mesh.{Mesh, pair_count};
 ghost use Rattle.definition.specs.Questions.{asked, verdict_outcome, node_numbers, some_node, some_element};

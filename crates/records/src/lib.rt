@@ -1,5 +1,7 @@
 // The records of a job file: from a job's bytes to its numbers in three lists. It knows the definition and the families: no mesh, no query and no listing.
 // Floats stay bits. Every call has an answer for every list of bytes.
+#![tactic(auto)]
+
 ghost use Rattle.std.specs.Prelude.{◌≡◌, true, ◌++◌, ◌+◌, ◌*◌, ◌≤◌, ◌<◌, length, take};
 ghost use Rattle.definition.specs.Questions.{refused, asked, verdict_outcome};
 ghost use Rattle.definition.specs.Job.{mark_of, mark_at, is_known, is_head, record_bytes, little, pair_bits, row_of, taken, read_job};

@@ -1,4 +1,6 @@
 // Reads job files from standard input, each after its length in four bytes, the least first, and prints their listings one after the other.
+#![tactic(auto)]
+
 ghost use Rattle.std.specs.Prelude.{◌≤◌, length};
 
 use definition::JobAnswer;

@@ -2,6 +2,8 @@
 // A case: the operator, the family, the formulation and whether pairs are given, a byte each; the thickness in eight bytes; ten counts in two bytes each,
 // of the seven lists given and of the three lists lent; then the seven lists, eight bytes a float and four bytes an index. The least byte comes first.
 // The answer: its line; a line for each triplet; and whether every place of the lent lists past the triplets is as it was lent.
+#![tactic(auto)]
+
 ghost use Rattle.std.specs.Prelude.{◌≡◌, ◌≤◌, length};
 
 use libc::{STDIN_FILENO, STDOUT_FILENO};

@@ -1,6 +1,8 @@
 // The correctly rounded square root of every f64, `root_of` of the written definition. It knows the definition alone.
 // A guess by floats is verified by integer squares. Where it fails, which the values below 2^-1022 make it do, the root is worked out digit by digit:
 // so the result rests on integers alone, and of the guess nothing is promised.
+#![tactic(auto)]
+
 ghost use Rattle.std.specs.Prelude.{◌≡◌, true, ◌+◌, ◌*◌, ◌^◌, ◌≤◌, ◌<◌};
 ghost use Rattle.std.specs.Float.{binary64};
 ghost use Rattle.std.specs.Float.Ieee.{of_bits};

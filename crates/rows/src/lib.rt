@@ -1,5 +1,7 @@
 // The strain values of one point of an element, `build_b_matrix` of the Rust. It knows an element by the coordinates of its nodes, gathered from the mesh: no triplet and no question.
 // The components are rr, zz, tt and rz (xx, yy, zz and xy), with engineering shear. Values stand by component, local node and displacement component, the order of the triplets.
+#![tactic(auto)]
+
 ghost use Rattle.std.specs.Prelude.{◌≡◌, [], ◌∷◌, ℕ, ◌+◌, ◌*◌, ◌≤◌, ◌<◌, length, get_or, replicate};
 ghost use Rattle.std.specs.Float.{nan};
 ghost use Rattle.definition.specs.Lists.{each, over};

@@ -1,5 +1,6 @@
 // Where a target is nearest on one element and on one of its faces: both searches, and what they find where no step is allowed.
 // It knows the definition, an element's map and its faces, the floats and the root; nothing of a mesh: no node numbers, no choice among elements.
+#![tactic(auto)]
 
 mod element_search;
 mod face_search;

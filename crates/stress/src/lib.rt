@@ -2,6 +2,8 @@
 // A mesh is three parameters: its family, 4 or 9; `nodes_rz`, two coordinates a node; and `elements`, the connectivity, F node numbers an element.
 // `element_indices` names the element of each point, and `reference_points` holds two reference coordinates a point.
 // `material_ids` has the material number of each element, `material_table` sixteen numbers a material, and `pairs`, where they are given, a pair (c, s) an element.
+#![tactic(auto)]
+
 ghost use Rattle.std.specs.Prelude.{◌≡◌, ◌≤◌, length};
 ghost use Rattle.definition.specs.Elements.{nodes_of};
 ghost use Rattle.definition.specs.Mesh.{gathered};

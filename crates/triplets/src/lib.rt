@@ -1,6 +1,8 @@
 // The triplets of an operator in three lent lists: whether there is room for them, one triplet, and those of one point from a place on. Its specs and proofs have what the three operators share: the triplets of a call in the definition's words, and why writing them keeps the operators' promises.
 // It knows which values are kept and in which order, and the lengths of lists; its code knows nothing of a mesh or a material.
 // What has no place in all three lists is left out, and lengths are divided and no product is made, so no call asks anything of a place or of the lists' lengths.
+#![tactic(auto)]
+
 ghost use Rattle.std.specs.Prelude.{◌≡◌, ◌&&◌, ◌+◌, ◌*◌, ◌^◌, ◌≤◌, ◌<◌, leb, length, get_or};
 ghost use Rattle.std.specs.Float.{nan};
 ghost use Rattle.definition.specs.Elements.{nodes_of};

@@ -1,6 +1,8 @@
 // The mesh view: the node list and the connectivity, held together and lent. Each call over it takes it apart and hands its two lists to the call of the same name, whose promise it has.
 // `nodes_rz` holds two coordinates a node, in the mesh's unit of length, and `elements` F node numbers an element, from 0. The family, 4 or 9, stands beside the view.
 // The view is no more than the two lists: it asks nothing of them, and every call asks its own questions.
+#![tactic(auto)]
+
 ghost use Rattle.std.specs.Prelude.{◌≡◌, []};
 ghost use Rattle.definition.specs.Mesh.{element_nodes};
 ghost use Rattle.definition.specs.Operators.{InterpolationPromise, StrainPromise, StressPromise};
