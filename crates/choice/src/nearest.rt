@@ -28,14 +28,14 @@ fn is_nearer(square: f64, best_square: f64, distance: f64) -> bool
 }
 
 // An element's projection, and the squared distance whose root it keeps.
-#[derive(Drop)]
+#[derive(Clone, Copy)]
 struct NearElement {
     projection: ElementProjection,
     square: f64,
 }
 
 // A face's projection, and the squared distance whose root it keeps.
-#[derive(Drop)]
+#[derive(Clone, Copy)]
 struct NearFace {
     projection: FaceProjection,
     square: f64,
@@ -139,7 +139,7 @@ fn other_faces(
 // ---- one element after the other
 
 // The best element and the best face so far.
-#[derive(Drop)]
+#[derive(Clone, Copy)]
 struct Walk {
     element: NearElement,
     face: NearFace,

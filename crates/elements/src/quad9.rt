@@ -5,7 +5,7 @@ ghost use Rattle.std.specs.Prelude.{◌≡◌};
 ghost use Rattle.definition.specs.Elements.{shape9, grad_ref9, lagrange_low, lagrange_mid, lagrange_high, slope_low, slope_mid, slope_high};
 
 // What the three polynomials that are 1 at -1, at 0 and at 1 come to at one x, or what their slopes do.
-#[derive(Drop)]
+#[derive(Clone, Copy)]
 struct Lagrange(f64, f64, f64);
 
 fn q2_lagrange_1d(x: f64) -> Lagrange

@@ -19,7 +19,7 @@ pub fn point_of(count: usize, xy: &[f64; 18], r: Reference) -> Point
 }
 
 // What one step of a search needs: the point of an element at a reference, and the Jacobian there.
-#[derive(Drop)]
+#[derive(Clone, Copy)]
 pub struct Frame {
     pub point: Point,
     pub jacobian: JacobianMatrix,

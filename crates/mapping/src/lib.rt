@@ -18,7 +18,7 @@ pub use gradients::grad_phys;
 pub use jacobians::{det_j, face_tangent, inv_j};
 
 // The two numbers of a node: x and y, or the gradients by xi and by eta.
-#[derive(Drop)]
+#[derive(Clone, Copy)]
 struct Pair {
     first: f64,
     second: f64,

@@ -12,7 +12,7 @@ use definition::{JobAnswer, OperatorAnswer, QueryAnswer, Structural2dFormulation
 
 // What a query answers, in numbers: `question` is 0 where it is accepted, and `place` then too; else the three counts are 0.
 #[repr(C)]
-#[derive(Drop)]
+#[derive(Clone, Copy)]
 pub struct QueryNumbers {
     pub question: usize,
     pub place: usize,
@@ -23,7 +23,7 @@ pub struct QueryNumbers {
 
 // What an operator answers, in numbers, likewise.
 #[repr(C)]
-#[derive(Drop)]
+#[derive(Clone, Copy)]
 pub struct OperatorNumbers {
     pub question: usize,
     pub place: usize,
@@ -34,7 +34,7 @@ pub struct OperatorNumbers {
 
 // What the call from a job's bytes to its listing answers, in numbers, likewise.
 #[repr(C)]
-#[derive(Drop)]
+#[derive(Clone, Copy)]
 pub struct JobNumbers {
     pub question: usize,
     pub place: usize,

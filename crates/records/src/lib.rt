@@ -10,7 +10,7 @@ ghost use Rattle.records.specs.Reading.{mark_for, family_passes, Standing, walke
 use definition::Verdict;
 
 // What a job's bytes are read as: its family, its iterations and how many values stand in each list, two a node, F an element and two a point; or the question that was answered no, and the record's index.
-#[derive(Drop)]
+#[derive(Clone, Copy)]
 pub enum ReadAnswer {
     Read {
         family: usize,
@@ -26,7 +26,7 @@ pub enum ReadAnswer {
 }
 
 // The kind of a record, by its mark: QF, QN, QE, QP, and any other.
-#[derive(Drop)]
+#[derive(Clone, Copy)]
 enum Kind {
     Head,
     Node,
@@ -36,7 +36,7 @@ enum Kind {
 }
 
 // The walk over the records: the place and the index of the next record, and what the records before it gave. It counts values, so that the lists themselves are only written.
-#[derive(Drop)]
+#[derive(Clone, Copy)]
 struct Walk {
     at: usize,
     index: usize,

@@ -47,7 +47,7 @@ fn positive_root(b: u64) -> f64
 }
 
 // A count n of units, times 2^1074, as a * 2^54 * 4^h with 2^52 <= a < 2^54: the root of n units is the root of a * 2^54, times 2^h.
-#[derive(Drop)]
+#[derive(Clone, Copy)]
 struct Split {
     a: u64,
     h: u64,
@@ -134,7 +134,7 @@ fn is_root(c: u64, a: u64) -> bool
 }
 
 // Part of a root's digits, and what is left of the number's.
-#[derive(Drop)]
+#[derive(Clone, Copy)]
 struct Part {
     s: u64,
     rest: u64,

@@ -93,7 +93,7 @@ fn frame_of(count: usize, xy: &[f64; 18], r: Reference) -> Frame
 }
 
 // What one step from a reference comes to: the reference after it, and whether the seed's steps end there.
-#[derive(Drop)]
+#[derive(Clone, Copy)]
 struct ElementStep {
     next: Reference,
     ended: bool,
@@ -125,7 +125,7 @@ fn element_step(count: usize, xy: &[f64; 18], target: Point, r: Reference) -> El
 }
 
 // A step that ended the steps of a seed. Nothing is remembered where `known` is false.
-#[derive(Drop)]
+#[derive(Clone, Copy)]
 struct ElementMemory {
     known: bool,
     from: Reference,
@@ -133,7 +133,7 @@ struct ElementMemory {
 }
 
 // Where the steps of a seed end, and what is remembered.
-#[derive(Drop)]
+#[derive(Clone, Copy)]
 struct ElementEnd {
     at: Reference,
     memory: ElementMemory,

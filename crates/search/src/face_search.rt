@@ -35,7 +35,7 @@ fn next_s(d: Point, square: f64, u: f64, v: f64, s: f64) -> f64
 }
 
 // What one step from a coordinate comes to: the coordinate after it, and whether the seed's steps end there.
-#[derive(Drop)]
+#[derive(Clone, Copy)]
 struct FaceStep {
     next: f64,
     ended: bool,
@@ -69,7 +69,7 @@ fn face_step(count: usize, xy: &[f64; 18], local_face: u8, target: Point, s: f64
 }
 
 // A step that ended the steps of a seed. Nothing is remembered where `known` is false.
-#[derive(Drop)]
+#[derive(Clone, Copy)]
 struct FaceMemory {
     known: bool,
     from: f64,
@@ -77,7 +77,7 @@ struct FaceMemory {
 }
 
 // Where the steps of a seed end, and what is remembered.
-#[derive(Drop)]
+#[derive(Clone, Copy)]
 struct FaceEnd {
     at: f64,
     memory: FaceMemory,

@@ -11,7 +11,7 @@ ghost use Rattle.search.specs.Places.{element_place, face_place, of_element, of_
 use definition::{Point, Reference};
 
 // The best reference so far, its point and the point's squared distance from the target.
-#[derive(Drop)]
+#[derive(Clone, Copy)]
 pub struct ElementBest {
     pub reference: Reference,
     pub point: Point,
@@ -19,7 +19,7 @@ pub struct ElementBest {
 }
 
 // The best coordinate of a face so far, its point and the point's squared distance from the target.
-#[derive(Drop)]
+#[derive(Clone, Copy)]
 pub struct FaceBest {
     pub s: f64,
     pub point: Point,
@@ -52,7 +52,7 @@ fn element_place(count: usize, xy: &[f64; 18], target: Point, r: Reference) -> E
 // ---- without a step
 
 // What both searches find where no step is allowed: a place at each seed. The ends and middles of the faces are among the seeds of the element, and are worked out once.
-#[derive(Drop)]
+#[derive(Clone, Copy)]
 pub struct SeedBests {
     pub element: ElementBest,
     pub face0: FaceBest,

@@ -13,7 +13,7 @@ ghost use Rattle.query.specs.Query.{call, lists};
 use definition::{OperatorAnswer, QueryAnswer, Structural2dFormulation};
 
 // The Rust's `QuadMeshView2d`.
-#[derive(Drop)]
+#[derive(Clone, Copy)]
 pub struct QuadMeshView2d<'a> {
     pub nodes_rz: &'a [f64],
     pub elements: &'a [u32],
