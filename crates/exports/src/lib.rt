@@ -1,6 +1,5 @@
-// The C interface of the query and of the job, over slices and numbers, under plain names; that of the operators is in `operator_exports`. include/sobrizenta.h declares them all and explains every parameter.
+// The query and the job as C calls them, over slices and numbers, under plain names; the operators are in `operator_exports`. `exports_c` hands these to C under the same names, and include/sobrizenta.h explains every parameter.
 // It knows the public calls and which numbers stand for their types. It asks no question of its own, so a refusal is the call's, and its answer is the call's in numbers.
-// In C a slice is two parameters, a pointer and a length.
 #![tactic(auto)]
 
 ghost use Rattle.query.specs.Query.{call, lists};
@@ -10,8 +9,7 @@ ghost use Rattle.exports.specs.Job.{JobExported};
 use numbers::{JobNumbers, QueryNumbers};
 
 // `query_quad_mesh`: the nearest node, element and face of each point, in twelve lent lists.
-#[unsafe(no_mangle)]
-pub extern "C" fn sobrizenta_query_quad_mesh<'a>(
+pub fn sobrizenta_query_quad_mesh<'a>(
     family: usize,
     max_iterations: usize,
     nodes_rz: &'a [f64],
@@ -59,8 +57,7 @@ pub extern "C" fn sobrizenta_query_quad_mesh<'a>(
 }
 
 // `answer_job`: from a job's bytes to its listing's bytes, in a lent output of at least 30,738 bytes.
-#[unsafe(no_mangle)]
-pub extern "C" fn sobrizenta_answer_job(job: &[u8], listing: &mut [u8]) -> JobNumbers
+pub fn sobrizenta_answer_job(job: &[u8], listing: &mut [u8]) -> JobNumbers
     ensures { JobExported job.now listing.old result listing.new }
 {
     let answer = job::answer_job(job, listing);

@@ -37,12 +37,15 @@ module _ {z w : ℤ} {p m q n : ℕ} (f : Minus z p m) (g : Minus w q n) where
       (simp (zero-add, add-zero, zero-mul, mul_comm, mul_assoc, mul_left_comm, add-mul, mul-add) (omega arith))
 
 -- ---- family 9: the magnitudes of the three polynomials total at most 2, so those of the nine products at most 4
+square : (z : ℤ) → z *ℤ z ≡ pos (nat_abs z * nat_abs z)
+square (pos n) = refl
+square (negsuc n) = refl
+
 axis_magnitudes : {z : ℤ} {p m : ℕ} → Minus z p m → nat_abs z ≤ U 9 → nat_abs (low z) + nat_abs (mid z) + nat_abs (high z) ≤ 4 * (U 9 * U 9)
 axis_magnitudes {z} f h =
     let u = whole (U 9) in
-    let square : z *ℤ z ≡ pos (nat_abs z * nat_abs z) = elim z [ pos n ↦ refl | negsuc n ↦ refl ] in
     let ends : nat_abs (z -ℤ unit 9) + nat_abs (z +ℤ unit 9) ≤ 2 * U 9 = omega (arith, magnitude_is f, magnitude_is (f ⊟ u), magnitude_is (f ⊞ u)) in
-    let middle : nat_abs (unit 9 *ℤ unit 9 -ℤ z *ℤ z) ≤ U 9 * U 9 = rw square (omega (arith, magnitude_is (u ⊠ u ⊟ whole (nat_abs z * nat_abs z)), mul-le-mul h h)) in
+    let middle : nat_abs (unit 9 *ℤ unit 9 -ℤ z *ℤ z) ≤ U 9 * U 9 = rw (square z) (omega (arith, magnitude_is (u ⊠ u ⊟ whole (nat_abs z * nat_abs z)), mul-le-mul h h)) in
     simp magnitude_product (omega (arith, mul-le-mul h (le_refl (nat_abs (z -ℤ unit 9))), mul-le-mul h (le_refl (nat_abs (z +ℤ unit 9)))))
 
 biquadratic_magnitudes : {z w : ℤ} {p m q n : ℕ} → Minus z p m → Minus w q n → nat_abs z ≤ U 9 → nat_abs w ≤ U 9 → added ◌+◌ 0 (λ j. nat_abs (value_of 9 z w j)) 9 < 2 ^ 53
@@ -99,15 +102,15 @@ biquadratic_exact f g (suc (suc (suc (suc (suc (suc (suc (suc zero)))))))) l = (
 biquadratic_exact f g (suc (suc (suc (suc (suc (suc (suc (suc (suc j))))))))) l = absurd (omega arith)
 
 -- ---- the theorems
-pub exact-family-4 : ExactCases 4
+pub exact_family_4 : ExactCases 4
 unfolding nodes_of
-exact-family-4 ξ η z w f g =
+exact_family_4 ξ η z w f g =
     let total = bilinear_total (parts f.exact) (parts g.exact) in
     record { each = λ j l. (bilinear_exact f g j l).exact; total = total; float_total = total_one tt 4 (bilinear_exact f g) (lit< tt) total }
 
-pub exact-family-9 : ExactCases 9
+pub exact_family_9 : ExactCases 9
 unfolding nodes_of
-exact-family-9 ξ η z w f g =
+exact_family_9 ξ η z w f g =
     let total = biquadratic_total (parts f.exact) (parts g.exact) in
     let few = biquadratic_magnitudes (parts f.exact) (parts g.exact) f.within g.within in
     record { each = biquadratic_exact f g; total = total; float_total = total_one tt 9 (λ j l. bounded (le_refl (nat_abs (value_of 9 z w j))) (biquadratic_exact f g j l)) few total }

@@ -1,7 +1,5 @@
-// The C interface of the three operators, over slices and numbers, under plain names; that of the query and the job is in `exports`. include/sobrizenta.h declares them all and explains every parameter.
-// An object of their own: in one object with the query the questions on a point and the face search would share a frame, which the compiler then calls in place of inlining it.
+// The three operators as C calls them, over slices and numbers, under plain names; the query and the job are in `exports`. `operator_exports_c` hands these to C under the same names, and include/sobrizenta.h explains every parameter.
 // It knows the public calls and which numbers stand for their types. It asks no question of its own, so a refusal is the call's, and its answer is the call's in numbers.
-// In C a slice is two parameters, a pointer and a length.
 #![tactic(auto)]
 
 ghost use Rattle.operator_questions.specs.Calls.{interpolation_call, strain_call, stress_call};
@@ -11,8 +9,7 @@ ghost use Rattle.operator_exports.specs.Operators.{InterpolationExported, Strain
 use numbers::OperatorNumbers;
 
 // `quad_mesh_interpolation_operator`: one row a point and one column a node, in three lent lists.
-#[unsafe(no_mangle)]
-pub extern "C" fn sobrizenta_interpolation_operator<'a>(
+pub fn sobrizenta_interpolation_operator<'a>(
     family: usize,
     nodes_rz: &'a [f64],
     elements: &'a [u32],
@@ -24,9 +21,9 @@ pub extern "C" fn sobrizenta_interpolation_operator<'a>(
 ) -> OperatorNumbers
     ensures { InterpolationExported
         (interpolation_call family nodes_rz.now elements.now element_indices.now reference_points.now)
-        (record { rows = rows.entry.now; columns = columns.old; values = values.old })
+        (record { rows = rows.old; columns = columns.old; values = values.old })
         result
-        (record { rows = rows.exit.now; columns = columns.new; values = values.new }) }
+        (record { rows = rows.new; columns = columns.new; values = values.new }) }
 {
     let answer = interpolation::quad_mesh_interpolation_operator(
         family,
@@ -42,8 +39,7 @@ pub extern "C" fn sobrizenta_interpolation_operator<'a>(
 }
 
 // `quad_mesh_strain_operator`: four rows a point and two columns a node. `formulation` 0 is axisymmetric, and any other number plane strain; the thickness is not read.
-#[unsafe(no_mangle)]
-pub extern "C" fn sobrizenta_strain_operator<'a>(
+pub fn sobrizenta_strain_operator<'a>(
     family: usize,
     nodes_rz: &'a [f64],
     elements: &'a [u32],
@@ -57,9 +53,9 @@ pub extern "C" fn sobrizenta_strain_operator<'a>(
 ) -> OperatorNumbers
     ensures { StrainExported
         (strain_call (interpolation_call family nodes_rz.now elements.now element_indices.now reference_points.now) (formulation_of formulation thickness))
-        (record { rows = rows.entry.now; columns = columns.old; values = values.old })
+        (record { rows = rows.old; columns = columns.old; values = values.old })
         result
-        (record { rows = rows.exit.now; columns = columns.new; values = values.new }) }
+        (record { rows = rows.new; columns = columns.new; values = values.new }) }
 {
     let answer = strain::quad_mesh_strain_operator(
         family,
@@ -76,8 +72,7 @@ pub extern "C" fn sobrizenta_strain_operator<'a>(
 }
 
 // `quad_mesh_stress_operator`: material times strain, likewise. `pairs_given` 0 is no, and any other number yes.
-#[unsafe(no_mangle)]
-pub extern "C" fn sobrizenta_stress_operator<'a>(
+pub fn sobrizenta_stress_operator<'a>(
     family: usize,
     nodes_rz: &'a [f64],
     elements: &'a [u32],
@@ -95,9 +90,9 @@ pub extern "C" fn sobrizenta_stress_operator<'a>(
 ) -> OperatorNumbers
     ensures { StressExported
         (stress_call (interpolation_call family nodes_rz.now elements.now element_indices.now reference_points.now) (formulation_of formulation thickness) material_ids.now material_table.now (yes_of pairs_given) pairs.now)
-        (record { rows = rows.entry.now; columns = columns.old; values = values.old })
+        (record { rows = rows.old; columns = columns.old; values = values.old })
         result
-        (record { rows = rows.exit.now; columns = columns.new; values = values.new }) }
+        (record { rows = rows.new; columns = columns.new; values = values.new }) }
 {
     let answer = stress::quad_mesh_stress_operator(
         family,

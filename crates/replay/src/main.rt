@@ -1,10 +1,11 @@
 // Reads job files from standard input, each after its length in four bytes, the least first, and prints their listings one after the other.
 #![tactic(auto)]
 
-ghost use Rattle.std.specs.Prelude.{◌≤◌, length};
+ghost use Rattle.std.specs.Prelude.{◌≤◌, length, IfOk};
 
 use definition::JobAnswer;
-use libc::{STDIN_FILENO, STDOUT_FILENO};
+use std::io;
+use std::io::{Read, Write};
 
 fn wide(x: u8) -> usize
     ensures { result ≤ 255 }
@@ -12,36 +13,52 @@ fn wide(x: u8) -> usize
     x as usize
 }
 
+// Reads until buf is full or the input ends, and answers how many bytes it put at the start of buf.
+fn read_full(rt: &impl Input, buf: &mut [u8]) -> io::Result<usize>
+    ensures { IfOk result (λ n. n ≤ length buf.new) }
+{
+    let mut reader = rt.reader();
+    let mut n = 0;
+    while n < buf.len() {
+        let more = reader.read(&mut buf[n..])?;
+        if more == 0 {
+            break;
+        }
+        n += more;
+    }
+    Ok(n)
+}
+
 // Reads at most `len` bytes, and answers how many it put at the start of buf.
-fn read_part(buf: &mut [u8], len: usize) -> usize
-    ensures { result ≤ length buf.new }
+fn read_part(rt: &impl Input, buf: &mut [u8], len: usize) -> io::Result<usize>
+    ensures { IfOk result (λ n. n ≤ length buf.new) }
 {
     if len <= buf.len() {
-        io::read_full(STDIN_FILENO, &mut buf[..len])
+        read_full(rt, &mut buf[..len])
     } else {
-        0
+        Ok(0)
     }
 }
 
-fn print_listing(bytes: &[u8]) {
+fn print_listing(rt: &impl Print, bytes: &[u8]) -> io::Result<()> {
     let mut out = [0u8; 30738];
     if let JobAnswer::Listed { bytes } = job::answer_job(bytes, &mut out) {
-        io::write_all(STDOUT_FILENO, &out[..bytes]);
+        io::writer(rt).write_all(&out[..bytes])?;
     }
+    Ok(())
 }
 
-fn main() {
-    let mut space = io::large_buffer();
+fn main(rt: HostRuntime) -> io::Result<()> {
+    let mut space = [0u8; 65536];
     let mut head = [0u8; 4];
-    let mut left: usize = 100000;
-    while 0 < left {
-        if io::read_full(STDIN_FILENO, &mut head) < 4 {
-            return;
+    for _ in 0..100000 {
+        if read_full(&rt, &mut head)? < 4 {
+            return Ok(());
         }
         // No stored job has 65,536 bytes or more, so the upper two bytes of its length are 0.
         let len = wide(head[0]) + 256 * wide(head[1]);
-        let n = read_part(&mut space, len);
-        print_listing(&space[..n]);
-        left -= 1;
+        let n = read_part(&rt, &mut space, len)?;
+        print_listing(&rt, &space[..n])?;
     }
+    Ok(())
 }

@@ -91,9 +91,9 @@ pub fn quad_mesh_interpolation_operator<'a>(
 ) -> OperatorAnswer
     ensures { InterpolationPromise
         (interpolation_call family mesh.entry.nodes_rz.now mesh.entry.elements.now element_indices.now reference_points.now)
-        (record { rows = rows.entry.now; columns = columns.old; values = values.old })
+        (record { rows = rows.old; columns = columns.old; values = values.old })
         result
-        (record { rows = rows.exit.now; columns = columns.new; values = values.new }) }
+        (record { rows = rows.new; columns = columns.new; values = values.new }) }
 {
     interpolation::quad_mesh_interpolation_operator(
         family,
@@ -120,9 +120,9 @@ pub fn quad_mesh_strain_operator<'a>(
 ) -> OperatorAnswer
     ensures { StrainPromise
         (strain_call (interpolation_call family mesh.entry.nodes_rz.now mesh.entry.elements.now element_indices.now reference_points.now) formulation)
-        (record { rows = rows.entry.now; columns = columns.old; values = values.old })
+        (record { rows = rows.old; columns = columns.old; values = values.old })
         result
-        (record { rows = rows.exit.now; columns = columns.new; values = values.new }) }
+        (record { rows = rows.new; columns = columns.new; values = values.new }) }
 {
     strain::quad_mesh_strain_operator(
         family,
@@ -154,9 +154,9 @@ pub fn quad_mesh_stress_operator<'a>(
 ) -> OperatorAnswer
     ensures { StressPromise
         (stress_call (interpolation_call family mesh.entry.nodes_rz.now mesh.entry.elements.now element_indices.now reference_points.now) formulation material_ids.now material_table.now pairs_given pairs.now)
-        (record { rows = rows.entry.now; columns = columns.old; values = values.old })
+        (record { rows = rows.old; columns = columns.old; values = values.old })
         result
-        (record { rows = rows.exit.now; columns = columns.new; values = values.new }) }
+        (record { rows = rows.new; columns = columns.new; values = values.new }) }
 {
     stress::quad_mesh_stress_operator(
         family,

@@ -9,9 +9,9 @@ use mathlib.Core.List.{List, [], ◌∷◌}
 use mathlib.Core.Option.{Option, none, some, some-injective, none-ne-some}
 use Prim.Native.Nat.{ℕ, zero, suc, ◌+◌}
 use seplogic.Ra.Ura.{Ura}
-use seplogic.Ra.TreeShare.{full_share}
+use base.Fraction.{full_share}
 use lib.Dec.{T as Holds}
-use mir.Syntax.{Sym, Ty, ty_struct, ty_enum, Tys, tnil, tcons, ttnil, Name, deref, field, place, Opd as Operand, copy, Rv as RValue, rv_opd, addr_of, aggregate, Body, seq, assign, call, return, Local, local, Fn}
+use mir.Syntax.{Sym, Ty, ty_struct, ty_enum, Tys, tnil, tcons, ttnil, Callee, deref, field, place, Opd as Operand, copy, Rv as RValue, rv_opd, addr_of, aggregate, Body, seq, assign, call, return, Local, local, Fn}
 use mir.Val.{Val, Vals, vnil, vcons, vptr, vstruct, of_list, WT, has_ty}
 use mir.Fields.{get_v}
 use base.Logic.{SProp, ent, sep, emp, guard, via, emp∗, comm∗, assoc∗, mono_r, all_i, wand_i, guard_i}
@@ -94,11 +94,11 @@ pub data Gives (ls : List Local) (st : State ls) : RValue → Val → Type 0 whe
 
 pub data Asks : Type 0 where
   returned : Val → Asks
-  called : Name → List Val → Ty → (Val → Asks) → Asks
+  called : Callee → List Val → Ty → (Val → Asks) → Asks
 
 pub data Straight (ls : List Local) : State ls → Body → Asks → Type 0 where
   assigned : {st : State ls} {i : ℕ} {rv : RValue} {v : Val} {b : Body} {a : Asks} → Gives ls st rv v → slot_at ls st i ≡ some none → Of (ty_at ls i) v → Straight ls (set_at ls st i v) b a → Straight ls st (seq (assign (place i []) rv) b) a
-  calling : {st : State ls} {i : ℕ} {f : Name} {xs : List Operand} {vs : List Val} {b : Body} {k : Val → Asks} → AllCopied ls st xs vs → slot_at ls st i ≡ some none → ((u : Val) → Straight ls (set_at ls st i u) b (k u)) → Straight ls st (seq (call f xs (place i [])) b) (called f vs (ty_at ls i) k)
+  calling : {st : State ls} {i : ℕ} {f : Callee} {xs : List Operand} {vs : List Val} {b : Body} {k : Val → Asks} → AllCopied ls st xs vs → slot_at ls st i ≡ some none → ((u : Val) → Straight ls (set_at ls st i u) b (k u)) → Straight ls st (seq (call f xs (place i [])) b) (called f vs (ty_at ls i) k)
   returning : {st : State ls} {v : Val} → slot_at ls st zero ≡ some (some v) → Straight ls st return (returned v)
 
 -- operands that are locals, one after the other

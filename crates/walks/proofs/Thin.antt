@@ -1,17 +1,16 @@
 -- A function whose code is straight meets its contract where what it owns at entry is what the code asks. A thin call is such a function that calls one other and returns its result.
 --     answered         what a callee hands back, with its value of the result's MIR type
---     ensured-through  what one contract ensures is what another does
---     Asked, straight-meets        what is to be shown at one choice of lifetimes and arguments, and that the function then meets its contract
---     Thin, thin-meets             the same of a thin call
+--     ensured_through  what one contract ensures is what another does
+--     Asked, straight_meets        what is to be shown at one choice of lifetimes and arguments, and that the function then meets its contract
+--     Thin, thin_meets             the same of a thin call
 -- Assumes `Logic`, and that the table of calls is monotone under a frame.
 use mathlib.Core.List.{List, [], ◌∷◌}
 use Prim.Native.Nat.{zero}
 use seplogic.Ra.Ura.{Ura}
-use mir.Syntax.{Ty, Name, Fn}
+use mir.Syntax.{Ty, Callee, Fn}
 use mir.Val.{Val}
 use base.Logic.{SProp, ent, sep, wand, ex, guard, via, comm∗, mono∗, mono_l, wand_i, apply∗, ex_e, ex_i}
 use prog.Wp.{Calls, Loops, WpFn}
-use ghost.Atoms.{meaning}
 use types.Logic.{Logic, sem}
 use sound.WpLaws.{FmC, fm→mono_c}
 use contract.Lifetimes.{Lfts, Shares, AllOutlive}
@@ -78,7 +77,7 @@ module _ {M : Type 1} {𝓤 : Ura M} (𝓛 : Logic 𝓤) where
         (comm∗ 𝓤 (wand 𝓤 R (Q y.0.4)) R))
         (apply∗ 𝓤 R (Q y.0.4))
 
-    module _ (S' : Signature) (c' : Spec 𝓤 S') (key : Name) where
+    module _ (S' : Signature) (c' : Spec 𝓤 S') (key : Callee) where
       pub record Thin (κs : Lfts S.lifetimes) (qs : Shares S.lifetimes) (bounds : AllOutlive S.lifetimes S.outlives κs) (a : Args S κs) (g : (c κs a).ghost) : Type 2 where
         pub to : (triple_of 𝓛 S' c').Ghost
         pub entry : ent 𝓤 (sep 𝓤 (on_entry 𝓛 S κs qs a (spelled κs a)) ((c κs a).requires g)) ((triple_of 𝓛 S' c').pre to)

@@ -1,0 +1,66 @@
+// The C interface of the query and of the job: the symbols of include/sobrizenta.h, which explains every parameter. Those of the operators are in `operator_exports_c`.
+// Each is the function of `exports` with the same name, under the same contract. It knows nothing else.
+// In C a slice is two parameters, a pointer and a length.
+#![tactic(auto)]
+
+ghost use Rattle.query.specs.Query.{call, lists};
+ghost use Rattle.exports.specs.Query.{QueryExported};
+ghost use Rattle.exports.specs.Job.{JobExported};
+
+use numbers::{JobNumbers, QueryNumbers};
+
+// `query_quad_mesh`: the nearest node, element and face of each point, in twelve lent lists.
+#[unsafe(no_mangle)]
+pub extern "C" fn sobrizenta_query_quad_mesh<'a>(
+    family: usize,
+    max_iterations: usize,
+    nodes_rz: &'a [f64],
+    elements: &'a [u32],
+    points: &[f64],
+    nearest_node_indices: &mut [usize],
+    nearest_node_points: &mut [f64],
+    nearest_node_distances: &mut [f64],
+    nearest_element_indices: &mut [usize],
+    nearest_element_reference_points: &mut [f64],
+    nearest_element_points: &mut [f64],
+    nearest_element_distances: &mut [f64],
+    nearest_face_element_indices: &mut [usize],
+    nearest_face_local_faces: &mut [u8],
+    nearest_face_reference_coordinates: &mut [f64],
+    nearest_face_points: &mut [f64],
+    nearest_face_distances: &mut [f64],
+) -> QueryNumbers
+    ensures { QueryExported
+        (call family max_iterations nodes_rz.now elements.now points.now)
+        (lists nearest_node_indices.old nearest_node_points.old nearest_node_distances.old nearest_element_indices.old nearest_element_reference_points.old nearest_element_points.old nearest_element_distances.old nearest_face_element_indices.old nearest_face_local_faces.old nearest_face_reference_coordinates.old nearest_face_points.old nearest_face_distances.old)
+        result
+        (lists nearest_node_indices.new nearest_node_points.new nearest_node_distances.new nearest_element_indices.new nearest_element_reference_points.new nearest_element_points.new nearest_element_distances.new nearest_face_element_indices.new nearest_face_local_faces.new nearest_face_reference_coordinates.new nearest_face_points.new nearest_face_distances.new) }
+{
+    exports::sobrizenta_query_quad_mesh(
+        family,
+        max_iterations,
+        nodes_rz,
+        elements,
+        points,
+        nearest_node_indices,
+        nearest_node_points,
+        nearest_node_distances,
+        nearest_element_indices,
+        nearest_element_reference_points,
+        nearest_element_points,
+        nearest_element_distances,
+        nearest_face_element_indices,
+        nearest_face_local_faces,
+        nearest_face_reference_coordinates,
+        nearest_face_points,
+        nearest_face_distances,
+    )
+}
+
+// `answer_job`: from a job's bytes to its listing's bytes, in a lent output of at least 30,738 bytes.
+#[unsafe(no_mangle)]
+pub extern "C" fn sobrizenta_answer_job(job: &[u8], listing: &mut [u8]) -> JobNumbers
+    ensures { JobExported job.now listing.old result listing.new }
+{
+    exports::sobrizenta_answer_job(job, listing)
+}
