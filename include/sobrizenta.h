@@ -1,7 +1,7 @@
 /* Sobrizenta: the nearest node, element and face of each point on a mesh of quadrilaterals, and sparse rows for interpolation, strain and stress.
  *
  * Written by hand for target/staticlib/libsobrizenta.a, which `bindings/archive` proves and writes. Link it with the C library; it needs memcpy and memset.
- * Each function below is proved to meet its contract, in crates/exports and crates/operator_exports. Nothing proves this header: it declares and explains them.
+ * Each function below is proved to meet its contract, in crates/exports_c and crates/operator_exports_c. Nothing proves this header: it declares and explains them.
  * docs/DEFINITION.md defines every number that they hand out; SOBRIZENTA_EDITION is its edition. docs/REFUSALS.md has the table of the refusal numbers.
  *
  * THE MACHINE. x86-64 Linux, System V calling convention. double is IEEE 754 binary64. The floating-point control is the one that a C program

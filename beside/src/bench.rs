@@ -155,9 +155,9 @@ fn call_rows(points: usize) -> Vec<Row> {
 
 fn process_rows() -> io::Result<Vec<Row>> {
     let probe =
-        env::var_os("SOBRIZENTA_PROBE").map_or_else(|| root().join("target/bin/probe"), PathBuf::from);
+        env::var_os("SOBRIZENTA_PROBE").map_or_else(|| root().join("crates/probe/out/probe"), PathBuf::from);
     if !probe.exists() {
-        eprintln!("{} is not there (rt check probe): its rows are left out", probe.display());
+        eprintln!("{} is not there (rt run in crates/probe): its rows are left out", probe.display());
         return Ok(Vec::new());
     }
     FAMILIES.into_iter().map(|family| process_row(&probe, family)).collect()

@@ -14,6 +14,9 @@ const ROOT: &str = "../..";
 /// Proves the library and makes the archive, seen from the repository.
 const MAKER: &str = "bindings/archive";
 
+/// The folders of a crate that it reads. Beside them the toolchain keeps its work, in `out`.
+const SOURCES: [&str; 3] = ["src", "specs", "proofs"];
+
 /// Where it puts the archive, seen from the repository.
 const MADE: &str = "target/staticlib/libsobrizenta.a";
 
@@ -30,8 +33,12 @@ fn given(archive: PathBuf) -> PathBuf {
 
 fn made() -> PathBuf {
     let root = Path::new(ROOT);
-    for source in ["crates", "crates.txt", MAKER] {
-        println!("cargo::rerun-if-changed={}", root.join(source).display());
+    let crates = fs::read_dir(root.join("crates")).expect("the repository has a folder crates");
+    let crates = crates.map(|entry| entry.expect("the folder crates can be read").path());
+    let sources = crates.flat_map(|folder| SOURCES.map(|name| folder.join(name)));
+    let files = ["crates.txt", MAKER].map(|name| root.join(name));
+    for source in sources.filter(|folder| folder.exists()).chain(files) {
+        println!("cargo::rerun-if-changed={}", source.display());
     }
     let status = Command::new(root.join(MAKER)).status();
     let status = status.unwrap_or_else(|error| panic!("{MAKER}: {error}"));

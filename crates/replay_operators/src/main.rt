@@ -6,8 +6,9 @@
 
 ghost use Rattle.std.specs.Prelude.{◌≡◌, ◌≤◌, length};
 
-use libc::{STDIN_FILENO, STDOUT_FILENO};
 use numbers::OperatorNumbers;
+use std::io;
+use std::io::{Read, Write};
 
 // The lists of a case, in the order of their counts.
 const NODES_RZ: u8 = 0;
@@ -50,9 +51,7 @@ fn byte_after(case: &[u8; 65536], at: usize, k: usize) -> u8 {
 // The number of `size` bytes from a place on.
 fn number_at(case: &[u8; 65536], at: usize, size: usize) -> u64 {
     let mut number: u64 = 0;
-    let mut k = size;
-    while 0 < k {
-        k -= 1;
+    for k in (0..size).rev() {
         number = (number << 8) | (byte_after(case, at, k) as u64);
     }
     number
@@ -96,10 +95,8 @@ fn place_of(case: &[u8; 65536], list: u8) -> usize
     ensures { result ≤ 200000000 }
 {
     let mut at = 32;
-    let mut before: u8 = 0;
-    while before < list {
+    for before in 0..list {
         at += bytes_of(case, before);
-        before += 1;
     }
     at
 }
@@ -126,10 +123,8 @@ fn floats_of(case: &[u8; 65536], list: u8) -> [f64; 256]
 {
     let mut floats = [0.0; 256];
     let at = place_of(case, list);
-    let mut i = 0;
-    while i < 256 {
+    for i in 0..256 {
         floats[i] = float_at(case, at + 8 * i);
-        i += 1;
     }
     floats
 }
@@ -139,10 +134,8 @@ fn nodes_of(case: &[u8; 65536], list: u8) -> [u32; 256]
 {
     let mut nodes = [0u32; 256];
     let at = place_of(case, list);
-    let mut i = 0;
-    while i < 256 {
+    for i in 0..256 {
         nodes[i] = (number_at(case, at + 4 * i, 4) % 4294967296) as u32;
-        i += 1;
     }
     nodes
 }
@@ -152,111 +145,118 @@ fn numbers_of(case: &[u8; 65536], list: u8) -> [usize; 256]
 {
     let mut numbers = [0usize; 256];
     let at = place_of(case, list);
-    let mut i = 0;
-    while i < 256 {
+    for i in 0..256 {
         numbers[i] = number_at(case, at + 4 * i, 4) as usize;
-        i += 1;
     }
     numbers
 }
 
 // ---- the text of an answer
 
-fn print_byte(b: u8) {
-    io::write_all(STDOUT_FILENO, &[b]);
+fn print_byte(rt: &impl Print, b: u8) -> io::Result<()> {
+    io::writer(rt).write_all(&[b])
 }
 
 // Prints a number in decimal and the byte after it.
-fn print_number(number: usize, end: u8) {
-    io::print_decimal(STDOUT_FILENO, number as u64);
-    print_byte(end);
+fn print_number(rt: &impl Print, number: usize, end: u8) -> io::Result<()> {
+    print!(rt; "{number}")?;
+    print_byte(rt, end)
 }
 
 // Prints two numbers and the byte after them.
-fn print_pair(first: usize, second: usize, end: u8) {
-    print_number(first, b' ');
-    print_number(second, end);
+fn print_pair(rt: &impl Print, first: usize, second: usize, end: u8) -> io::Result<()> {
+    print_number(rt, first, b' ')?;
+    print_number(rt, second, end)
 }
 
 // Prints a float's bits in sixteen hexadecimal digits, or nan.
-fn print_float(x: f64) {
+fn print_float(rt: &impl Print, x: f64) -> io::Result<()> {
     if x != x {
-        io::write_all(STDOUT_FILENO, b"nan");
+        print!(rt; "nan")
     } else {
-        io::print_hex(STDOUT_FILENO, f64::to_bits(x), 16);
+        let bits = f64::to_bits(x);
+        print!(rt; "{bits:016x}")
     }
 }
 
 // Prints the line of an answer, of which question 0 means that it is built.
-fn print_answer(answer: OperatorNumbers) {
+fn print_answer(rt: &impl Print, answer: OperatorNumbers) -> io::Result<()> {
     if answer.question == 0 {
-        io::write_all(STDOUT_FILENO, b"built ");
-        print_number(answer.rows, b' ');
-        print_pair(answer.columns, answer.triplets, b'\n');
+        print!(rt; "built ")?;
+        print_number(rt, answer.rows, b' ')?;
+        print_pair(rt, answer.columns, answer.triplets, b'\n')
     } else {
-        io::write_all(STDOUT_FILENO, b"refused ");
-        print_pair(answer.question, answer.place, b'\n');
+        print!(rt; "refused ")?;
+        print_pair(rt, answer.question, answer.place, b'\n')
     }
 }
 
 // Prints the line of a place that has a triplet; of any other, answers whether it is as it was lent.
-fn print_place(is_triplet: bool, row: usize, column: usize, value: f64) -> bool {
+fn print_place(
+    rt: &impl Print,
+    is_triplet: bool,
+    row: usize,
+    column: usize,
+    value: f64,
+) -> io::Result<bool> {
     if is_triplet {
-        print_pair(row, column, b' ');
-        print_float(value);
-        print_byte(b'\n');
-        return true;
+        print_pair(rt, row, column, b' ')?;
+        print_float(rt, value)?;
+        print_byte(rt, b'\n')?;
+        return Ok(true);
     }
-    row == UNTOUCHED && column == UNTOUCHED && value == UNTOUCHED_VALUE
+    Ok(row == UNTOUCHED && column == UNTOUCHED && value == UNTOUCHED_VALUE)
 }
 
 // Prints the places of the three lists, and answers whether all after the triplets are as they were lent.
 fn print_places(
+    rt: &impl Print,
     triplets: usize,
     rows: [usize; 1152],
     columns: [usize; 1152],
     values: [f64; 1152],
-) -> bool {
+) -> io::Result<bool> {
     let mut kept = true;
-    let mut i = 0;
-    while i < 1152 {
-        if !print_place(i < triplets, rows[i], columns[i], values[i]) {
+    for i in 0..1152 {
+        if !print_place(rt, i < triplets, rows[i], columns[i], values[i])? {
             kept = false;
         }
-        i += 1;
     }
-    kept
+    Ok(kept)
 }
 
 // Prints whether the places after the triplets are kept.
-fn print_kept(kept: bool) {
+fn print_kept(rt: &impl Print, kept: bool) -> io::Result<()> {
     if kept {
-        io::write_all(STDOUT_FILENO, b"kept\n");
+        println!(rt; "kept")
     } else {
-        io::write_all(STDOUT_FILENO, b"touched\n");
+        println!(rt; "touched")
     }
 }
 
 // Prints the whole text of an answer.
 fn print_outcome(
+    rt: &impl Print,
     answer: OperatorNumbers,
     rows: [usize; 1152],
     columns: [usize; 1152],
     values: [f64; 1152],
-) {
-    print_answer(answer);
-    print_kept(print_places(answer.triplets, rows, columns, values));
+) -> io::Result<()> {
+    print_answer(rt, answer)?;
+    let kept = print_places(rt, answer.triplets, rows, columns, values)?;
+    print_kept(rt, kept)
 }
 
 // ---- a case
 
 fn answer_interpolation<'a>(
+    rt: &impl Print,
     case: &'a [u8; 65536],
     nodes_rz: &'a [f64],
     elements: &'a [u32],
     element_indices: &'a [usize],
     reference_points: &'a [f64],
-) {
+) -> io::Result<()> {
     let mut rows = [UNTOUCHED; 1152];
     let mut columns = [UNTOUCHED; 1152];
     let mut values = [UNTOUCHED_VALUE; 1152];
@@ -270,16 +270,17 @@ fn answer_interpolation<'a>(
         &mut columns[..count_of(case, COLUMNS, 1152)],
         &mut values[..count_of(case, VALUES, 1152)],
     );
-    print_outcome(answer, rows, columns, values);
+    print_outcome(rt, answer, rows, columns, values)
 }
 
 fn answer_strain<'a>(
+    rt: &impl Print,
     case: &'a [u8; 65536],
     nodes_rz: &'a [f64],
     elements: &'a [u32],
     element_indices: &'a [usize],
     reference_points: &'a [f64],
-) {
+) -> io::Result<()> {
     let mut rows = [UNTOUCHED; 1152];
     let mut columns = [UNTOUCHED; 1152];
     let mut values = [UNTOUCHED_VALUE; 1152];
@@ -295,10 +296,11 @@ fn answer_strain<'a>(
         &mut columns[..count_of(case, COLUMNS, 1152)],
         &mut values[..count_of(case, VALUES, 1152)],
     );
-    print_outcome(answer, rows, columns, values);
+    print_outcome(rt, answer, rows, columns, values)
 }
 
 fn answer_stress<'a>(
+    rt: &impl Print,
     case: &'a [u8; 65536],
     nodes_rz: &'a [f64],
     elements: &'a [u32],
@@ -307,7 +309,7 @@ fn answer_stress<'a>(
     material_ids: &'a [usize],
     material_table: &'a [f64],
     pairs: &'a [f64],
-) {
+) -> io::Result<()> {
     let mut rows = [UNTOUCHED; 1152];
     let mut columns = [UNTOUCHED; 1152];
     let mut values = [UNTOUCHED_VALUE; 1152];
@@ -327,21 +329,23 @@ fn answer_stress<'a>(
         &mut columns[..count_of(case, COLUMNS, 1152)],
         &mut values[..count_of(case, VALUES, 1152)],
     );
-    print_outcome(answer, rows, columns, values);
+    print_outcome(rt, answer, rows, columns, values)
 }
 
 // Reads the lists that the stress operator alone takes, and answers the case.
 fn answer_material<'a>(
+    rt: &impl Print,
     case: &'a [u8; 65536],
     nodes_rz: &'a [f64],
     elements: &'a [u32],
     element_indices: &'a [usize],
     reference_points: &'a [f64],
-) {
+) -> io::Result<()> {
     let material_ids = numbers_of(case, MATERIAL_IDS);
     let material_table = floats_of(case, MATERIAL_TABLE);
     let pairs = floats_of(case, PAIRS);
     answer_stress(
+        rt,
         case,
         nodes_rz,
         elements,
@@ -350,55 +354,91 @@ fn answer_material<'a>(
         &material_ids[..count_of(case, MATERIAL_IDS, 256)],
         &material_table[..count_of(case, MATERIAL_TABLE, 256)],
         &pairs[..count_of(case, PAIRS, 256)],
-    );
+    )
 }
 
 // Answers a case by the operator that it names.
 fn answer_lists<'a>(
+    rt: &impl Print,
     case: &'a [u8; 65536],
     nodes_rz: &'a [f64],
     elements: &'a [u32],
     element_indices: &'a [usize],
     reference_points: &'a [f64],
-) {
+) -> io::Result<()> {
     match number_at(case, 0, 1) {
-        0 => answer_interpolation(case, nodes_rz, elements, element_indices, reference_points),
-        1 => answer_strain(case, nodes_rz, elements, element_indices, reference_points),
-        _ => answer_material(case, nodes_rz, elements, element_indices, reference_points),
+        0 => answer_interpolation(
+            rt,
+            case,
+            nodes_rz,
+            elements,
+            element_indices,
+            reference_points,
+        ),
+        1 => answer_strain(
+            rt,
+            case,
+            nodes_rz,
+            elements,
+            element_indices,
+            reference_points,
+        ),
+        _ => answer_material(
+            rt,
+            case,
+            nodes_rz,
+            elements,
+            element_indices,
+            reference_points,
+        ),
     }
 }
 
 // Reads the lists that every operator takes, and answers the case.
-fn answer_case(case: &[u8; 65536]) {
+fn answer_case(rt: &impl Print, case: &[u8; 65536]) -> io::Result<()> {
     let nodes_rz = floats_of(case, NODES_RZ);
     let elements = nodes_of(case, ELEMENTS);
     let element_indices = numbers_of(case, ELEMENT_INDICES);
     let reference_points = floats_of(case, REFERENCE_POINTS);
     answer_lists(
+        rt,
         case,
         &nodes_rz[..count_of(case, NODES_RZ, 256)],
         &elements[..count_of(case, ELEMENTS, 256)],
         &element_indices[..count_of(case, ELEMENT_INDICES, 256)],
         &reference_points[..count_of(case, REFERENCE_POINTS, 256)],
-    );
+    )
 }
 
 // The next bytes of the input, and zeros after them. No stored case is longer than the buffer.
-fn next_bytes(bytes: usize) -> [u8; 65536] {
-    let mut buf = io::large_buffer();
-    io::read_full(STDIN_FILENO, &mut buf[..least(bytes, 65536)]);
-    buf
+fn next_bytes(rt: &impl Input, bytes: usize) -> io::Result<[u8; 65536]> {
+    let mut buf = [0u8; 65536];
+    read_full(rt, &mut buf[..least(bytes, 65536)])?;
+    Ok(buf)
+}
+
+// Reads until buf is full or the input ends.
+fn read_full(rt: &impl Input, buf: &mut [u8]) -> io::Result<()> {
+    let mut reader = rt.reader();
+    let mut n = 0;
+    while n < buf.len() {
+        let more = reader.read(&mut buf[n..])?;
+        if more == 0 {
+            break;
+        }
+        n += more;
+    }
+    Ok(())
 }
 
 // Answers case after case until the input ends, which reads as a case of no bytes.
-fn main() {
-    let mut left: usize = 100000;
-    while 0 < left {
-        let bytes = number_at(&next_bytes(4), 0, 4) as usize;
+fn main(rt: HostRuntime) -> io::Result<()> {
+    for _ in 0..100000 {
+        let bytes = number_at(&next_bytes(&rt, 4)?, 0, 4) as usize;
         if bytes == 0 {
-            return;
+            return Ok(());
         }
-        answer_case(&next_bytes(bytes));
-        left -= 1;
+        answer_case(&rt, &next_bytes(&rt, bytes)?)?;
     }
+    Ok(())
 }

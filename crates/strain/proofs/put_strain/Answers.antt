@@ -1,0 +1,20 @@
+-- `put_strain` meets its contract: the triplets of the points met have been put. Assumes nothing.
+use mathlib.Core.Path.{refl}
+use borrow.Author.Rules.{rules}
+use Rattle.definition.specs.Lists.{each}
+use Rattle.operator_questions.specs.Calls.{interpolation_call, strain_call}
+use Rattle.triplets.specs.Strip.{strip, written}
+use Rattle.triplets.specs.Triplets.{strain_value}
+use Rattle.triplets.proofs.Filling.{component_next}
+use Rattle.strain.proofs.put_strain.Goals as goal
+
+pub loop-p-init : goal.loop-p-init
+unfolding written each
+loop-p-init c = (search rules, refl)
+
+pub loop-p-preserved : goal.loop-p-preserved
+loop-p-preserved c =
+    let a = c.args in
+    let q = strain_call (interpolation_call a.family a.nodes_rz.now a.elements.now a.element_indices.now a.reference_points.now) a.formulation in
+    let lent = strip a.rows.now a.columns.now a.values.now 0 in
+    (search rules, component_next q.base lent c.loop-p.p c.element_nodes-nodes.ensures (strain_value q) _ c.loop-p.invariant.1 (rw c.reference_at-reference.ensures at c.put_strain_at.ensures) c.put_component_rows-at.ensures)
