@@ -232,6 +232,7 @@ fn better_element(
 }
 
 // The search of an element whose root is left to the caller, for whom the squared distance may be enough. The loop tries the first best, at the centre, and then the end of each seed's steps.
+#[tactic(auto, using(crate::proofs::Tried::tried), unfolding(definition::specs::Search::element_best))]
 pub fn element_best(
     count: usize,
     xy: &[f64; 18],

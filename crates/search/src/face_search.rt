@@ -173,6 +173,7 @@ fn better_face(
 }
 
 // The search of a face whose root is left to the caller. The loop tries the first best, at s = 0, and then the end of each seed's steps.
+#[tactic(auto, using(crate::proofs::Tried::tried), unfolding(definition::specs::Search::face_best))]
 pub fn face_best(
     count: usize,
     xy: &[f64; 18],

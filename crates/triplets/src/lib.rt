@@ -13,6 +13,7 @@ ghost use Rattle.triplets.specs.Strip.{strip, written};
 // ---- one triplet
 
 // One triplet, where its value is not 0 of either sign and each list has the place; the place of the next.
+#[tactic(auto, unfolding(crate::specs::Strip::stored, crate::specs::Strip::written, definition::specs::Rows::kept))]
 pub fn put_triplet(
     row: usize,
     column: usize,

@@ -4,8 +4,15 @@ use mathlib.Core.Bool.{true, not, false≢true}
 use lib.Dec.{T, eqb→eq}
 use lib.Ieee.{Float, nan, inf, fin, binary64, fits, is_nan, of_bits, to_bits, eq}
 use lib.Ieee.Bits.{of_bits-to_bits}
+use borrow.Author.Rules.{rules}
 use Rattle.binary64.specs.OneNumber.{one_number}
 use Rattle.binary64.proofs.same.Goals as goal
+
+left_number : (a b : Float) → eq a b ≡ true → T (not (is_nan a))
+unfolding eq is_nan
+left_number nan b h = absurd (false≢true h)
+left_number (inf s) b h = tt
+left_number (fin s m e) b h = tt
 
 right_number : (a b : Float) → eq a b ≡ true → T (not (is_nan b))
 unfolding eq is_nan
@@ -19,7 +26,10 @@ one_pattern : (a b : Float) → T (fits binary64 a) → T (fits binary64 b) → 
 one_pattern a b f g h = sym (of_bits-to_bits binary64 a f) ∙ ap (of_bits binary64) h ∙ of_bits-to_bits binary64 b g
 
 pub float_to_bits-result-then-a-b : goal.float_to_bits-result-then-a-b
-float_to_bits-result-then-a-b c = right_number _ _ c.if-a-b.true
+float_to_bits-result-then-a-b c =
+    let l = left_number c.args.a c.args.b c.if-a-b.true in
+    let r = right_number c.args.a c.args.b c.if-a-b.true in
+    search rules
 
 pub returns-then-a-b-clause-value : goal.returns-then-a-b-clause-value
 unfolding one_number

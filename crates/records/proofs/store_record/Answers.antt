@@ -1,11 +1,12 @@
 -- `store_record` meets its contract: each way stores what `taken` appends for its kind. Assumes nothing.
 use mathlib.Core.Path.{◌≡◌}
+use mathlib.Core.List.{◌++◌}
 use Prim.Native.Nat.{◌+◌, ◌*◌, ◌≤◌}
 use native.Mathlib.Omega.{arith}
 use borrow.Author.Rules.{rules}
-use lib.ListN.{length}
+use lib.ListN.{length, take}
 use Rattle.definition.specs.Elements.{nodes_of}
-use Rattle.definition.specs.Job.{node, element, point, record_bytes, taken}
+use Rattle.definition.specs.Job.{node, element, point, record_bytes, pair_bits, taken}
 use Rattle.records.specs.Reading.{walked}
 use Rattle.records.proofs.Walking.{within_bounds}
 use Rattle.records.proofs.store_record.Goals as goal
@@ -41,7 +42,10 @@ returns-in-Head c = rw c.in-Head.is
 
 pub returns-in-Node : goal.returns-in-Node
 unfolding walked taken
-returns-in-Node c = rw (c.in-Node.is, ← c.store_pair.ensures)
+returns-in-Node c =
+    let w = c.args.walk in
+    let stored : take (w.node_values + 2) c.store_pair.new.list ≡ take w.node_values c.args.nodes.now ++ pair_bits c.args.bytes.now (w.at + 2) = c.store_pair.ensures in
+    rw (c.in-Node.is, ← stored)
 
 pub returns-in-Element : goal.returns-in-Element
 unfolding walked taken
@@ -49,7 +53,10 @@ returns-in-Element c = rw (c.in-Element.is, ← c.nodes_per_element.ensures.valu
 
 pub returns-in-Point : goal.returns-in-Point
 unfolding walked taken
-returns-in-Point c = rw (c.in-Point.is, ← c.store_pair-in-Point.ensures)
+returns-in-Point c =
+    let w = c.args.walk in
+    let stored : take (w.point_values + 2) c.store_pair-in-Point.new.list ≡ take w.point_values c.args.points.now ++ pair_bits c.args.bytes.now (w.at + 2) = c.store_pair-in-Point.ensures in
+    rw (c.in-Point.is, ← stored)
 
 pub returns-in-Unknown : goal.returns-in-Unknown
 unfolding walked taken

@@ -3,8 +3,7 @@ use mathlib.Core.Path.{ap, ◌∙◌}
 use mathlib.Core.Bool.{false≢true}
 use native.Mathlib.Omega.{arith}
 use lib.Ieee.{of_bits}
-use Rattle.definition.specs.Search.{element_best}
-use Rattle.search.specs.Places.{element_place, of_element}
+use Rattle.search.specs.Places.{of_element}
 use Rattle.search.proofs.Tried.{beginning, tried, own, next}
 use Rattle.search.proofs.element_search.element_best.Goals as goal
 
@@ -14,10 +13,6 @@ loop-i-init c = (omega arith, beginning _, λ t. absurd (false≢true t))
 
 pub better_element-best-requires : goal.better_element-best-requires
 better_element-best-requires c = λ h. own _ _ _ _ _ _ c.loop-i.invariant.1 h
-
-pub returns-then-i-eq9 : goal.returns-then-i-eq9
-unfolding element_best
-returns-then-i-eq9 c = rw c.if-i-eq9.true at (c.better_element-best.ensures ∙ ap element_place (tried _ _ _ _ _ _ c.loop-i.invariant.1))
 
 pub loop-i-preserved : goal.loop-i-preserved
 loop-i-preserved c = (

@@ -3,8 +3,7 @@ use mathlib.Core.Path.{ap, ◌∙◌}
 use mathlib.Core.Bool.{false≢true}
 use native.Mathlib.Omega.{arith}
 use lib.Ieee.{of_bits}
-use Rattle.definition.specs.Search.{face_best}
-use Rattle.search.specs.Places.{face_place, of_face}
+use Rattle.search.specs.Places.{of_face}
 use Rattle.search.proofs.Tried.{beginning, tried, own, next}
 use Rattle.search.proofs.face_search.face_best.Goals as goal
 
@@ -14,10 +13,6 @@ loop-i-init c = (omega arith, beginning _, λ t. absurd (false≢true t))
 
 pub better_face-best-requires : goal.better_face-best-requires
 better_face-best-requires c = λ h. own _ _ _ _ _ _ c.loop-i.invariant.1 h
-
-pub returns-then-i-eq3 : goal.returns-then-i-eq3
-unfolding face_best
-returns-then-i-eq3 c = rw c.if-i-eq3.true at (c.better_face-best.ensures ∙ ap face_place (tried _ _ _ _ _ _ c.loop-i.invariant.1))
 
 pub loop-i-preserved : goal.loop-i-preserved
 loop-i-preserved c = (

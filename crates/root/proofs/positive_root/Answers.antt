@@ -1,0 +1,60 @@
+-- `root::positive_root` meets its contract: a guess that `is_root` finds right, and the whole part of the root that `digits` finds, give the same pattern, the one that `root_units` writes.
+use mathlib.Core.Path.{◌≡◌, sym}
+use mathlib.Core.Bool.{true, not, false≢true}
+use Prim.Native.Nat.{ℕ, zero, suc, ◌+◌, ◌-◌, ◌*◌, ◌/◌, ◌^◌, ◌≤◌, ◌<◌}
+use native.Mathlib.Nat.{lt_of_le_of_lt}
+use native.Mathlib.Omega.{arith}
+use lib.Dec.{T}
+use lib.Ieee.{Float, nan, inf, fin, binary64, is_nan, of_bits, eq}
+use Rattle.definition.specs.Root.{isqrt, root_units}
+use Rattle.definition.proofs.Root.Isqrt.{Whole, isqrt_whole, sq_lt_back}
+use Rattle.definition.proofs.Root.Scaled.{Scaled, root_units_at, quad_lt, root_most}
+use Rattle.root.proofs.NotNan.{not_nan}
+use Rattle.root.proofs.positive_root.Goals as goal
+
+equals_itself : (x : Float) → eq x x ≡ true → T (not (is_nan x))
+unfolding eq is_nan
+equals_itself nan e = absurd (false≢true e)
+equals_itself (inf s) e = tt
+equals_itself (fin s m d) e = tt
+
+-- ---- c is half the root s of A * 2 ^ 54, rounded
+not_above : (A c s : ℕ) → Whole s (A * 2 ^ 54) → c * c < A * 2 ^ 52 + c → 2 * c < s + 2
+not_above A zero s w h = omega arith
+not_above A (suc p) s w h = omega (arith, sq_lt_back (2 * p + 1) (s + 1) (lt_of_le_of_lt (omega arith) w.above))
+
+not_below : (A c s : ℕ) → Whole s (A * 2 ^ 54) → A * 2 ^ 52 ≤ c * c + c → s < 2 * c + 1
+not_below A c s w h = sq_lt_back s (2 * c + 1) (lt_of_le_of_lt w.below (omega arith))
+
+rounded : (A c s : ℕ) → Whole s (A * 2 ^ 54) → (c * c < A * 2 ^ 52 + c) × (A * 2 ^ 52 ≤ c * c + c) → c ≡ (s + 1) / 2
+rounded A c s w h = omega (arith, not_above A c s w h.0, not_below A c s w h.1)
+
+-- ---- p is the pattern of the root of n units
+record Pattern (n p : ℕ) : Type 0 where
+  finite : p < 2047 * 2 ^ 52
+  exact : of_bits binary64 p ≡ root_units n
+
+module _ (n h A : ℕ) (l : h < 1533) (z : Scaled n h A) where
+  by_digits : (s : ℕ) → Whole s (A * 2 ^ 54) → Pattern n ((h + 1) * 2 ^ 52 + (s + 1) / 2)
+  by_digits s w = record { finite = omega (arith, root_most A s z.most w); exact = sym (root_units_at n h A s z w) }
+
+  by_guess : (p : ℕ) → (h + 1) * 2 ^ 52 ≤ p → (let c = p - (h + 1) * 2 ^ 52 in (c * c < A * 2 ^ 52 + c) × (A * 2 ^ 52 ≤ c * c + c)) → Pattern n p
+  by_guess p k e =
+      let s = isqrt 54 (A * 2 ^ 54) in
+      let w : Whole s (A * 2 ^ 54) = isqrt_whole 54 (A * 2 ^ 54) (quad_lt A z.most) in
+      let same : p ≡ (h + 1) * 2 ^ 52 + (s + 1) / 2 = omega (arith, rounded A (p - (h + 1) * 2 ^ 52) s w e) in
+      rw same (by_digits s w)
+
+-- ---- the guess is right
+pub float_from_bits-result : goal.float_from_bits-result
+float_from_bits-result c = not_nan _ (by_guess _ _ _ c.scale-v.ensures.0 c.scale-v.ensures.1 _ c.if-exponent-p.true (c.is_root.ensures c.if-is_root.true)).finite
+
+pub returns-then-is_root : goal.returns-then-is_root
+returns-then-is_root c = (by_guess _ _ _ c.scale-v.ensures.0 c.scale-v.ensures.1 _ c.if-exponent-p.true (c.is_root.ensures c.if-is_root.true)).exact
+
+-- ---- it is not
+pub float_from_bits-result-2 : goal.float_from_bits-result-2
+float_from_bits-result-2 c = not_nan _ (by_digits _ _ _ c.scale-v.ensures.0 c.scale-v.ensures.1 _ c.digits.ensures).finite
+
+pub returns : goal.returns
+returns c = (by_digits _ _ _ c.scale-v.ensures.0 c.scale-v.ensures.1 _ c.digits.ensures).exact
