@@ -9,4 +9,4 @@ pub returns : goal.returns
 returns c =
     let a = c.args in
     let m : Mesh = record { family = a.family; nodes = a.nodes_rz.now; elements = a.elements.now } in
-    asked_then (family_known m ∷ nodes_whole m ∷ elements_whole m ∷ []) (references_whole a.reference_points.now a.element_indices.now ∷ []) c.mesh_questions-v.ensures (rw c.references_whole-holds.ensures at c.then.ensures)
+    asked_then (family_known m ∷ nodes_whole m ∷ elements_whole m ∷ []) (references_whole a.reference_points.now a.element_indices.now ∷ []) c.mesh_questions-v.ensures (rw (← c.references_whole-holds.ensures) c.then.ensures)

@@ -54,7 +54,7 @@ returns-then-is_root c = (by_guess _ _ _ c.scale-v.ensures.0 c.scale-v.ensures.1
 
 -- ---- it is not
 pub float_from_bits-result-2 : goal.float_from_bits-result-2
-float_from_bits-result-2 c = not_nan _ (by_digits _ _ _ c.scale-v.ensures.0 c.scale-v.ensures.1 _ c.digits.ensures).finite
+float_from_bits-result-2 c = not_nan _ (omega (arith, (by_digits _ _ _ c.scale-v.ensures.0 c.scale-v.ensures.1 _ c.digits.ensures).finite))
 
 pub returns : goal.returns
 returns c = (by_digits _ _ _ c.scale-v.ensures.0 c.scale-v.ensures.1 _ c.digits.ensures).exact

@@ -1,4 +1,4 @@
--- The laws of the best after each seed, at what is in hand. Assumes nothing.
+-- `search::element_search::element_best` meets its contract: by the laws of the best after each seed, at what is in hand. Assumes nothing.
 use mathlib.Core.Path.{ap, ◌∙◌}
 use mathlib.Core.Bool.{false≢true}
 use native.Mathlib.Omega.{arith}

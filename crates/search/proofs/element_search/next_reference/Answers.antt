@@ -4,6 +4,4 @@ use Rattle.search.proofs.element_search.next_reference.Goals as goal
 
 pub returns : goal.returns
 unfolding next_reference gradient_xi gradient_eta hessian00 hessian01 hessian10 hessian11
-returns c =
-    let f = c in
-    rw (c.clamp-eta.ensures, f.clamp-xi.ensures, f.requires)
+returns c = rw (c.clamp-eta.ensures, c.clamp-xi.ensures, c.requires)

@@ -4,6 +4,4 @@ use Rattle.search.proofs.face_search.face_place.Goals as goal
 
 pub returns : goal.returns
 unfolding placed face_point
-returns c =
-    let p = c in
-    rw (← p.face_reference-f.ensures, ← p.point_of-point.ensures, ← c.squared_distance-square.ensures)
+returns c = rw (← c.face_reference-f.ensures, ← c.point_of-point.ensures, ← c.squared_distance-square.ensures)

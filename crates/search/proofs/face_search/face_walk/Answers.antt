@@ -1,4 +1,4 @@
--- The laws of steps, at what is left of the walk. Assumes nothing.
+-- `search::face_search::face_walk` meets its contract: by the laws of steps, at what is left of the walk. Assumes nothing.
 use mathlib.Core.Path.{◌≡◌, sym, ◌∙◌}
 use native.Mathlib.Omega.{arith}
 use Rattle.definition.proofs.Search.{walked_none, walked_more}
