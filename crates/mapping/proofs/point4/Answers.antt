@@ -5,4 +5,4 @@ use Rattle.mapping.proofs.point4.Goals as goal
 
 pub returns : goal.returns
 unfolding point_at nodes_of
-returns c = rw (← c.shape-n.ensures) c.point_sum.ensures
+returns c = rw c.shape-n.ensures at c.point_sum.ensures

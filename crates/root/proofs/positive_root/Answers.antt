@@ -1,22 +1,14 @@
 -- `root::positive_root` meets its contract: a guess that `is_root` finds right, and the whole part of the root that `digits` finds, give the same pattern, the one that `root_units` writes.
 use mathlib.Core.Path.{◌≡◌, sym}
-use mathlib.Core.Bool.{true, not, false≢true}
 use Prim.Native.Nat.{ℕ, zero, suc, ◌+◌, ◌-◌, ◌*◌, ◌/◌, ◌^◌, ◌≤◌, ◌<◌}
 use native.Mathlib.Nat.{lt_of_le_of_lt}
 use native.Mathlib.Omega.{arith}
-use lib.Dec.{T}
-use lib.Ieee.{Float, nan, inf, fin, binary64, is_nan, of_bits, eq}
+use lib.Ieee.{binary64, of_bits}
 use Rattle.definition.specs.Root.{isqrt, root_units}
 use Rattle.definition.proofs.Root.Isqrt.{Whole, isqrt_whole, sq_lt_back}
 use Rattle.definition.proofs.Root.Scaled.{Scaled, root_units_at, quad_lt, root_most}
 use Rattle.root.proofs.NotNan.{not_nan}
 use Rattle.root.proofs.positive_root.Goals as goal
-
-equals_itself : (x : Float) → eq x x ≡ true → T (not (is_nan x))
-unfolding eq is_nan
-equals_itself nan e = absurd (false≢true e)
-equals_itself (inf s) e = tt
-equals_itself (fin s m d) e = tt
 
 -- ---- c is half the root s of A * 2 ^ 54, rounded
 not_above : (A c s : ℕ) → Whole s (A * 2 ^ 54) → c * c < A * 2 ^ 52 + c → 2 * c < s + 2

@@ -1,6 +1,6 @@
 -- `root::root` meets its contract: what passes the first test is infinity or a finite value above zero, whose pattern is below infinity's; what passes the second is a zero; and what is left is below zero or a NaN.
 use mathlib.Core.Path.{◌≡◌, refl, sym, ap, ◌∙◌}
-use mathlib.Core.Bool.{Bool, true, false, not, true≢false, false≢true}
+use mathlib.Core.Bool.{Bool, true, false, true≢false, false≢true}
 use mathlib.Core.Logic.{inl, inr}
 use Prim.Native.Nat.{ℕ, zero, suc, ◌*◌, ◌^◌, ◌≤◌, ◌<◌}
 use native.Mathlib.Nat.{eq-zero-or-pos, lt_irrefl, mul-pos, zero-lt-suc, zero-mul}
@@ -8,7 +8,7 @@ use native.Mathlib.Omega.{arith}
 use lib.IntN.{ℤ, pos}
 use lib.Dec.{T}
 use borrow.Author.Tests.{ltb-true, ne_eqb}
-use lib.Ieee.{Float, nan, inf, fin, binary64, up, down, fits, is_nan, of_bits, to_bits, lt, eq, div}
+use lib.Ieee.{Float, nan, inf, fin, binary64, up, down, fits, of_bits, to_bits, lt, eq, div}
 use lib.Ieee.Bits.{of_bits-to_bits}
 use lib.Ieee.Digits.{size-le}
 use lib.Ieee.Fits.{up_pos, kept-lt}
@@ -30,11 +30,6 @@ above (inf false) h = infinite
 above (fin true m e) h = absurd (false≢true h)
 above (fin false zero e) h = absurd (omega (arith, ltb-true))
 above (fin false (suc m) e) h = finite m e
-
-number : {x : Float} → Above x → T (not (is_nan x))
-unfolding is_nan
-number infinite = tt
-number (finite m e) = tt
 
 -- ---- the pattern
 some : (x : Float) → T (fits binary64 x) → lt (of_bits binary64 0) x ≡ true → 0 < to_bits binary64 x

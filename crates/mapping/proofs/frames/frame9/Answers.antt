@@ -6,6 +6,6 @@ use Rattle.mapping.proofs.frames.frame9.Goals as goal
 pub returns : goal.returns
 unfolding point_at jacobian_at nodes_of
 returns c = record {
-  point_value = rw (← c.shape-n.ensures) c.map_point.ensures;
-  jacobian_value = rw (← c.grad_ref-grad.ensures) c.jacobian.ensures;
+  point_value = rw c.shape-n.ensures at c.map_point.ensures;
+  jacobian_value = rw c.grad_ref-grad.ensures at c.jacobian.ensures;
 }
