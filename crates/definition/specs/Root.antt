@@ -24,8 +24,8 @@ pub record Held (y : Float) : Type 0 where
   pub plainly : T (plain y)
 
 -- Of the values r and y, r is not farther from the root of x, and where y is as near, r is the one whose last bit is 0.
--- In units, the root of x is that of inUnits x * 2 ^ 1074. For y below r, r is as near as y or nearer where the middle (r + y) / 2 is not above the root;
--- squared, and times 4: (r + y) * (r + y) ≤ 4 * (inUnits x * 2 ^ 1074). For y above r it is the other way round.
+-- In units, the root of x is that of in_units x * 2 ^ 1074. For y below r, r is as near as y or nearer where the middle (r + y) / 2 is not above the root;
+-- squared, and times 4: (r + y) * (r + y) ≤ 4 * (in_units x * 2 ^ 1074). For y above r it is the other way round.
 pub record NotFarther (x r y : Float) : Type 0 where
   pub lower : in_units y < in_units r → (in_units r + in_units y) * (in_units r + in_units y) ≤ 4 * (in_units x * 2 ^ 1074)
   pub upper : in_units r < in_units y → 4 * (in_units x * 2 ^ 1074) ≤ (in_units r + in_units y) * (in_units r + in_units y)

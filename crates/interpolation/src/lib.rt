@@ -50,9 +50,9 @@ pub fn quad_mesh_interpolation_operator<'a>(
 ) -> OperatorAnswer
     ensures { InterpolationPromise
         (interpolation_call family nodes_rz.now elements.now element_indices.now reference_points.now)
-        (record { rows = rows.entry.now; columns = columns.old; values = values.old })
+        (record { rows = rows.old; columns = columns.old; values = values.old })
         result
-        (record { rows = rows.exit.now; columns = columns.new; values = values.new }) }
+        (record { rows = rows.new; columns = columns.new; values = values.new }) }
 {
     let count = element_indices.len();
     let per_point = elements::nodes_per_element(family);

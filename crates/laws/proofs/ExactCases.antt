@@ -13,7 +13,7 @@ use Rattle.laws.specs.ExactCases.{Exactly, Multiple, grain_of, digits_of, unit, 
 use Rattle.laws.proofs.Exact.Integers.{Minus, same, whole, ◌⊞◌, ◌⊟◌, ◌⊠◌, magnitude_is, magnitude_product}
 use Rattle.laws.proofs.Exact.Dyadic.{Dyadic, parts, bounded, multiple, doubled, dyadic_one, dyadic-⊕, dyadic-⊖, dyadic-⊗, dyadic_power, total_one}
 
--- 1, as a number over 2 ^ grainOf family: the magnitude of `unit`
+-- 1, as a number over 2 ^ grain_of family: the magnitude of `unit`
 abbrev U : ℕ → ℕ
 U family = 2 ^ grain_of family
 

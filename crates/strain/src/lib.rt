@@ -66,9 +66,9 @@ pub fn quad_mesh_strain_operator<'a>(
 ) -> OperatorAnswer
     ensures { StrainPromise
         (strain_call (interpolation_call family nodes_rz.now elements.now element_indices.now reference_points.now) formulation)
-        (record { rows = rows.entry.now; columns = columns.old; values = values.old })
+        (record { rows = rows.old; columns = columns.old; values = values.old })
         result
-        (record { rows = rows.exit.now; columns = columns.new; values = values.new }) }
+        (record { rows = rows.new; columns = columns.new; values = values.new }) }
 {
     let count = element_indices.len();
     let per_point = 8 * elements::nodes_per_element(family);

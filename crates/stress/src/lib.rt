@@ -121,9 +121,9 @@ pub fn quad_mesh_stress_operator<'a>(
 ) -> OperatorAnswer
     ensures { StressPromise
         (stress_call (interpolation_call family nodes_rz.now elements.now element_indices.now reference_points.now) formulation material_ids.now material_table.now pairs_given pairs.now)
-        (record { rows = rows.entry.now; columns = columns.old; values = values.old })
+        (record { rows = rows.old; columns = columns.old; values = values.old })
         result
-        (record { rows = rows.exit.now; columns = columns.new; values = values.new }) }
+        (record { rows = rows.new; columns = columns.new; values = values.new }) }
 {
     let count = element_indices.len();
     let per_point = 8 * elements::nodes_per_element(family);

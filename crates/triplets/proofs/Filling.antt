@@ -31,7 +31,7 @@ entries_are F p node value old =
 module _ (q : InterpolationCall) (s : Strip) (p : ℕ) {t u : Strip} {nodes : List ℕ} (row : nodes ≡ element_nodes (record { family = q.mesh.family; nodes = []; elements = q.mesh.elements }) (element_at q p)) where
   pub shape_next : {r : Reference} {shape : List Float} → t ≡ written s (triplets_till q 1 1 (shape_value q) p) → r ≡ reference_at q p → shape ≡ shape_of q.mesh.family r.xi r.eta →
       u ≡ written t (point_triplets 1 1 (nodes_of q.mesh.family) (λ j. get_or nodes j 0) (λ i j d. get_or shape j nan) p) → u ≡ written s (triplets_till q 1 1 (shape_value q) (p + 1))
-  shape_next before at-reference Shape-is put = written_each s _ p before (rw (row, row_alone q.mesh (element_at q p), Shape-is, at-reference) at put)
+  shape_next before at-reference shape_is put = written_each s _ p before (rw (row, row_alone q.mesh (element_at q p), shape_is, at-reference) at put)
 
   pub component_next : (value : ℕ → ℕ → ℕ → ℕ → Float) {entries : List Float} (old : List Float) → t ≡ written s (triplets_till q 4 2 value p) → entries ≡ listed (value p) (nodes_of q.mesh.family) old →
       u ≡ written t (point_triplets 4 2 (nodes_of q.mesh.family) (λ j. get_or nodes j 0) (λ i j d. get_or entries (2 * nodes_of q.mesh.family * i + 2 * j + d) nan) p) → u ≡ written s (triplets_till q 4 2 value (p + 1))

@@ -64,9 +64,9 @@ pub few_points : (references : List Float) (indices : List ℕ) → (references_
 few_points references indices h = leb-true (length indices) 1000000 (and_parts (whole 2 (length references)) (leb (length indices) 1000000) h).1
 
 -- question 7 gives each triplet its place
-pub room_for : (lent : TripletLists) {n m : ℕ} → triplet_room lent n ≡ true → m ≤ n → Room lent m
+pub room_for_lem : (lent : TripletLists) {n m : ℕ} → triplet_room lent n ≡ true → m ≤ n → Room lent m
 unfolding triplet_room
-room_for lent {n} {m} h l =
+room_for_lem lent {n} {m} h l =
     let (rows-columns, values) = and_parts (leb n (length lent.rows) && leb n (length lent.columns)) (leb n (length lent.values)) h in
     let (rows, columns) = and_parts (leb n (length lent.rows)) (leb n (length lent.columns)) rows-columns in (
       omega (arith, leb-true n (length lent.rows) rows),

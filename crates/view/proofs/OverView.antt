@@ -1,7 +1,7 @@
 -- A thin call over the view: the function has the view among its parameters where its callee has the view's two slices, and all else alike. So it owns what the callee asks once the view is taken apart, and the callee's last values are its own.
 --     args, vals       what the callee is passed
 --     entry, last      what is owned at entry, and what is said of the last values
---     view-meets       the function meets its contract
+--     view_meets       the function meets its contract
 -- Assumes `Logic`, and that the table of calls is monotone under a frame.
 use mathlib.Core.List.{List, [], ◌∷◌, ◌++◌}
 use Prim.Native.Nat.{ℕ, zero}

@@ -27,9 +27,9 @@ use Rattle.walks.proofs.Known.{Knowns, spells, tellss, lawfuls}
 use Rattle.walks.proofs.Straight.{Of, Passed, Asks, called, returned, Straight, begun, ty_at, meaning, runs_straight}
 
 module _ {M : Type 1} {𝓤 : Ura M} (𝓛 : Logic 𝓤) where
-  -- the result of a contract, and whatever is ensured of it
   open 𝓛 use {H}
 
+  -- the result of a contract, and whatever is ensured of it
   pub answered : (R : RattleType) (τ : Ty) → ((r : R.Denot) (u : Val) → Is R r (u ∷ []) → Of τ u) → (P : SProp 𝓤) (F G : R.Denot → SProp 𝓤) → ((r : R.Denot) → ent 𝓤 (F r) (G r)) → (u : Val)
       → ent 𝓤 (H.⇛ (ex 𝓤 (λ (r : R.Denot). sep 𝓤 (sep 𝓤 P (sem 𝓛 (R.own_val r (u ∷ [])))) (F r))))
       (H.⇛ (guard 𝓤 (Of τ u) (H.⇛ (ex 𝓤 (λ (r : R.Denot). sep 𝓤 (sep 𝓤 P (sem 𝓛 (R.own_val r (u ∷ [])))) (G r))))))

@@ -10,7 +10,7 @@ use Rattle.definition.specs.Operators.{InterpolationCall, TripletLists, triplet_
 use Rattle.operator_questions.specs.Calls.{interpolation_call}
 use Rattle.triplets.specs.Triplets.{shape_value}
 use Rattle.triplets.proofs.Filling.{shape_most, shapes_alone}
-use Rattle.triplets.proofs.Promised.{refused_kept, accepted_kept, fifth_holds, few_points, room_for}
+use Rattle.triplets.proofs.Promised.{refused_kept, accepted_kept, fifth_holds, few_points, room_for_lem}
 use Rattle.interpolation.proofs.quad_mesh_interpolation_operator.Goals as goal
 
 -- after the questions have all passed there are few points, and room for their triplets
@@ -46,4 +46,4 @@ returns c =
     let q = interpolation_call a.family a.nodes_rz.now a.elements.now a.element_indices.now a.reference_points.now in
     let lent : TripletLists = record { rows = a.rows.now; columns = a.columns.now; values = a.values.now } in
     let passed = c.in_default.ensures lent (rw c.nodes_per_element-per_point.ensures.value at c.holds_triplets-room.ensures) in
-    accepted_kept (interpolation q lent) lent passed (omega arith) (omega arith) (room_for lent (roomy q lent passed) (shape_most q (shape_value q) (length q.element_indices))) (rw (shapes_alone q (length q.element_indices)) at c.put_interpolation-triplets.ensures)
+    accepted_kept (interpolation q lent) lent passed (omega arith) (omega arith) (room_for_lem lent (roomy q lent passed) (shape_most q (shape_value q) (length q.element_indices))) (rw (shapes_alone q (length q.element_indices)) at c.put_interpolation-triplets.ensures)

@@ -9,7 +9,7 @@ use Rattle.definition.specs.Operators.{StrainCall, TripletLists, triplet_room, o
 use Rattle.operator_questions.specs.Calls.{interpolation_call, strain_call}
 use Rattle.triplets.specs.Triplets.{strain_value}
 use Rattle.triplets.proofs.Filling.{component_most}
-use Rattle.triplets.proofs.Promised.{refused_kept, accepted_kept, fifth_holds, few_points, room_for}
+use Rattle.triplets.proofs.Promised.{refused_kept, accepted_kept, fifth_holds, few_points, room_for_lem}
 use Rattle.strain.proofs.quad_mesh_strain_operator.Goals as goal
 
 -- after the questions have all passed there are few points, and room for their triplets
@@ -45,4 +45,4 @@ returns c =
     let q = strain_call (interpolation_call a.family a.nodes_rz.now a.elements.now a.element_indices.now a.reference_points.now) a.formulation in
     let lent : TripletLists = record { rows = a.rows.now; columns = a.columns.now; values = a.values.now } in
     let passed = c.in_default.ensures lent (rw c.nodes_per_element-per_point.ensures.value at c.holds_triplets-room.ensures) in
-    accepted_kept (strain q lent) lent passed refl refl (room_for lent (roomy q lent passed) (component_most q.base (strain_value q) (length q.base.element_indices))) c.put_strain-triplets.ensures
+    accepted_kept (strain q lent) lent passed refl refl (room_for_lem lent (roomy q lent passed) (component_most q.base (strain_value q) (length q.base.element_indices))) c.put_strain-triplets.ensures

@@ -9,7 +9,7 @@ use Rattle.definition.specs.Operators.{StressCall, TripletLists, triplet_room, o
 use Rattle.operator_questions.specs.Calls.{interpolation_call, stress_call}
 use Rattle.triplets.specs.Triplets.{stress_value}
 use Rattle.triplets.proofs.Filling.{component_most}
-use Rattle.triplets.proofs.Promised.{refused_kept, accepted_kept, sixth_holds, few_points, room_for}
+use Rattle.triplets.proofs.Promised.{refused_kept, accepted_kept, sixth_holds, few_points, room_for_lem}
 use Rattle.stress.proofs.quad_mesh_stress_operator.Goals as goal
 
 -- after the questions have all passed there are few points, and room for their triplets
@@ -45,4 +45,4 @@ returns c =
     let q = stress_call (interpolation_call a.family a.nodes_rz.now a.elements.now a.element_indices.now a.reference_points.now) a.formulation a.material_ids.now a.material_table.now a.pairs_given a.pairs.now in
     let lent : TripletLists = record { rows = a.rows.now; columns = a.columns.now; values = a.values.now } in
     let passed = c.in_default.ensures lent (rw c.nodes_per_element-per_point.ensures.value at c.holds_triplets-room.ensures) in
-    accepted_kept (stress q lent) lent passed refl refl (room_for lent (roomy q lent passed) (component_most q.base (stress_value q) (length q.base.element_indices))) c.put_stress-triplets.ensures
+    accepted_kept (stress q lent) lent passed refl refl (room_for_lem lent (roomy q lent passed) (component_most q.base (stress_value q) (length q.base.element_indices))) c.put_stress-triplets.ensures
