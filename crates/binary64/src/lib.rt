@@ -31,7 +31,7 @@ pub fn clamp(x: f64) -> f64
 // Whether two numbers have the same bits: the two zeros do not, and a NaN has them of none.
 pub fn same(a: f64, b: f64) -> bool
     ensures value { result ≡ one_number a b }
-    ensures a_value { result ≡ true → a ≡ b }
+    ensures equal { result ≡ true → a ≡ b }
 {
     if a == b {
         f64::to_bits(a) == f64::to_bits(b)

@@ -281,7 +281,7 @@ fn store_record(
     points: &mut [u64; 512],
 )
     requires standing { Standing bytes.now walk × (walk.at + record_bytes (mark_for kind) walk.family ≤ length bytes.now) }
-    requires walk_value { within (walked (mark_for kind) bytes.now walk) ≡ true }
+    requires within_limits { within (walked (mark_for kind) bytes.now walk) ≡ true }
     ensures { so_far (walked (mark_for kind) bytes.now walk) nodes.new elements.new points.new ≡ taken (mark_for kind) bytes.now walk.at (so_far walk nodes.old elements.old points.old) }
 {
     let body = walk.at + 2;
@@ -310,7 +310,7 @@ pub fn read_job(
     elements: &mut [u32; 2304],
     points: &mut [u64; 512],
 ) -> ReadAnswer
-    ensures points_after { read_outcome result nodes.new elements.new points.new ≡ read_job bytes.now }
+    ensures outcome { read_outcome result nodes.new elements.new points.new ≡ read_job bytes.now }
     ensures bounded { Bounded result nodes.new elements.new points.new }
 {
     let mut walk = Walk {

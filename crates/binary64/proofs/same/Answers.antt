@@ -35,8 +35,8 @@ pub returns-then-a-b-clause-value : goal.returns-then-a-b-clause-value
 unfolding one_number
 returns-then-a-b-clause-value c = rw c.if-a-b.true
 
-pub returns-then-a-b-clause-a_value : goal.returns-then-a-b-clause-a_value
-returns-then-a-b-clause-a_value c = λ h. one_pattern c.args.a c.args.b (rw c.well_formed.0.1 tt) (rw c.well_formed.1.0.1 tt) (eqb→eq _ _ (rw h tt))
+pub returns-then-a-b-clause-equal : goal.returns-then-a-b-clause-equal
+returns-then-a-b-clause-equal c = λ h. one_pattern c.args.a c.args.b (rw c.well_formed.0.1 tt) (rw c.well_formed.1.0.1 tt) (eqb→eq _ _ (rw h tt))
 
 pub returns-else-a-b-clause-value : goal.returns-else-a-b-clause-value
 unfolding one_number

@@ -4,8 +4,8 @@ use Rattle.job.proofs.put_listing.Goals as goal
 
 pub returns-in-Refused : goal.returns-in-Refused
 unfolding listing
-returns-in-Refused c = rw (← c.in-Refused.ensures.points_after) c.put_refusal.ensures
+returns-in-Refused c = rw (← c.in-Refused.ensures.outcome) c.put_refusal.ensures
 
 pub returns-in-Read : goal.returns-in-Read
 unfolding listing
-returns-in-Read c = rw (← c.in-Read.ensures.points_after) c.put_job.ensures
+returns-in-Read c = rw (← c.in-Read.ensures.outcome) c.put_job.ensures

@@ -14,16 +14,16 @@ use Rattle.records.proofs.read_job.Goals as goal
 pub loop-walk-init : goal.loop-walk-init
 loop-walk-init c = reached_start c.args.bytes.now
 
-pub returns-in-Refused-clause-points_after : goal.returns-in-Refused-clause-points_after
-returns-in-Refused-clause-points_after c =
+pub returns-in-Refused-clause-outcome : goal.returns-in-Refused-clause-outcome
+returns-in-Refused-clause-outcome c =
     reached_refused c.loop-walk.invariant c.kind_at-kind.ensures c.loop-walk-test.true c.in-Refused.ensures
 
 pub store_record-requires-clause-standing : goal.store_record-requires-clause-standing
 store_record-requires-clause-standing c =
     (c.loop-walk.invariant.standing, (ready _ _ _ (rw c.in_default.is at c.record_verdict-verdict.ensures)).whole)
 
-pub store_record-requires-clause-walk_value : goal.store_record-requires-clause-walk_value
-store_record-requires-clause-walk_value c = (ready _ _ _ (rw c.in_default.is at c.record_verdict-verdict.ensures)).fits
+pub store_record-requires-clause-within_limits : goal.store_record-requires-clause-within_limits
+store_record-requires-clause-within_limits c = (ready _ _ _ (rw c.in_default.is at c.record_verdict-verdict.ensures)).fits
 
 pub walk_after-walk-requires : goal.walk_after-walk-requires
 walk_after-walk-requires c =
@@ -43,13 +43,13 @@ loop-walk-preserved c =
     let passed = rw c.in_default.is at c.record_verdict-verdict.ensures in
     rw (c.walk_after-walk.ensures.value, c.store_record.ensures) (reached_next c.loop-walk.invariant c.kind_at-kind.ensures c.loop-walk-test.true passed (rw c.walk_after-walk.ensures.value at c.walk_after-walk.ensures.iterations_bound))
 
-pub returns-then-walk-eq0-clause-points_after : goal.returns-then-walk-eq0-clause-points_after
+pub returns-then-walk-eq0-clause-outcome : goal.returns-then-walk-eq0-clause-outcome
 unfolding asked
-returns-then-walk-eq0-clause-points_after c =
+returns-then-walk-eq0-clause-outcome c =
     rw c.if-walk-eq0.true at (reached_end c.loop-walk.invariant c.loop-walk-test.false)
 
-pub returns-clause-points_after : goal.returns-clause-points_after
+pub returns-clause-outcome : goal.returns-clause-outcome
 unfolding asked
-returns-clause-points_after c =
+returns-clause-outcome c =
     let some : 0 < c.loop-walk.walk.index = omega arith in
     rw (lt-ltb 0 c.loop-walk.walk.index some) at (reached_end c.loop-walk.invariant c.loop-walk-test.false)

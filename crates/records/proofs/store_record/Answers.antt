@@ -16,7 +16,7 @@ unfolding record_bytes walked
 store_pair-requires c =
     let t = c.in-Node.is in
     let whole : c.args.walk.at + 18 ≤ length c.args.bytes.now = rw t at c.requires.standing.1 in
-    let room : c.args.walk.node_values + 2 ≤ 1024 = (within_bounds (walked node c.args.bytes.now c.args.walk) (rw t at c.requires.walk_value)).0 in
+    let room : c.args.walk.node_values + 2 ≤ 1024 = (within_bounds (walked node c.args.bytes.now c.args.walk) (rw t at c.requires.within_limits)).0 in
     (omega arith, search rules)
 
 pub store_row-requires : goal.store_row-requires
@@ -25,7 +25,7 @@ store_row-requires c =
     let t = c.in-Element.is in
     let f : c.nodes_per_element.result ≡ nodes_of c.args.walk.family = c.nodes_per_element.ensures.value in
     let whole : c.args.walk.at + (2 + 4 * nodes_of c.args.walk.family) ≤ length c.args.bytes.now = rw t at c.requires.standing.1 in
-    let room : c.args.walk.element_values + nodes_of c.args.walk.family ≤ 2304 = (within_bounds (walked element c.args.bytes.now c.args.walk) (rw t at c.requires.walk_value)).1 in
+    let room : c.args.walk.element_values + nodes_of c.args.walk.family ≤ 2304 = (within_bounds (walked element c.args.bytes.now c.args.walk) (rw t at c.requires.within_limits)).1 in
     (omega arith, search rules)
 
 pub store_pair-requires-in-Point : goal.store_pair-requires-in-Point
@@ -33,7 +33,7 @@ unfolding record_bytes walked
 store_pair-requires-in-Point c =
     let t = c.in-Point.is in
     let whole : c.args.walk.at + 18 ≤ length c.args.bytes.now = rw t at c.requires.standing.1 in
-    let room : c.args.walk.point_values + 2 ≤ 512 = (within_bounds (walked point c.args.bytes.now c.args.walk) (rw t at c.requires.walk_value)).2 in
+    let room : c.args.walk.point_values + 2 ≤ 512 = (within_bounds (walked point c.args.bytes.now c.args.walk) (rw t at c.requires.within_limits)).2 in
     (omega arith, search rules)
 
 pub returns-in-Head : goal.returns-in-Head
