@@ -10,7 +10,7 @@ pub returns-then-same : goal.returns-then-same
 returns-then-same c =
     let a = c.args in
     let after = c.if-not-first.true in
-    rw after (ap face_place (met (face_point (element a.count a.xy.now) a.local_face) a.target {best = of_face a.best} (c.requires after) (c.same.ensures.a_value c.if-same.true)))
+    rw after (ap face_place (met (face_point (element a.count a.xy.now) a.local_face) a.target {best = of_face a.best} (c.requires after) (c.same.ensures.equal c.if-same.true)))
 
 pub returns-then-is_taken : goal.returns-then-is_taken
 returns-then-is_taken c =
