@@ -5,7 +5,7 @@ ghost use Rattle.std.specs.Prelude.{◌≤◌, length, IfOk};
 
 use definition::JobAnswer;
 use std::io;
-use std::io::{Read, Write};
+use std::io::Write;
 
 fn wide(x: u8) -> usize
     ensures { result ≤ 255 }
@@ -13,28 +13,12 @@ fn wide(x: u8) -> usize
     x as usize
 }
 
-// Reads until buf is full or the input ends, and answers how many bytes it put at the start of buf.
-fn read_full(rt: &impl Input, buf: &mut [u8]) -> io::Result<usize>
-    ensures { IfOk result (λ n. n ≤ length buf.new) }
-{
-    let mut reader = rt.reader();
-    let mut n = 0;
-    while n < buf.len() {
-        let more = reader.read(&mut buf[n..])?;
-        if more == 0 {
-            break;
-        }
-        n += more;
-    }
-    Ok(n)
-}
-
 // Reads at most `len` bytes, and answers how many it put at the start of buf.
 fn read_part(rt: &impl Input, buf: &mut [u8], len: usize) -> io::Result<usize>
     ensures { IfOk result (λ n. n ≤ length buf.new) }
 {
     if len <= buf.len() {
-        read_full(rt, &mut buf[..len])
+        reading::read_full(rt, &mut buf[..len])
     } else {
         Ok(0)
     }
@@ -52,7 +36,7 @@ fn main(rt: HostRuntime) -> io::Result<()> {
     let mut space = [0u8; 65536];
     let mut head = [0u8; 4];
     for _ in 0..100000 {
-        if read_full(&rt, &mut head)? < 4 {
+        if reading::read_full(&rt, &mut head)? < 4 {
             return Ok(());
         }
         // No stored job has 65,536 bytes or more, so the upper two bytes of its length are 0.

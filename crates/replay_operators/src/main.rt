@@ -8,7 +8,7 @@ ghost use Rattle.std.specs.Prelude.{◌≡◌, ◌≤◌, length};
 
 use numbers::OperatorNumbers;
 use std::io;
-use std::io::{Read, Write};
+use std::io::Write;
 
 // The lists of a case, in the order of their counts.
 const NODES_RZ: u8 = 0;
@@ -413,22 +413,8 @@ fn answer_case(rt: &impl Print, case: &[u8; 65536]) -> io::Result<()> {
 // The next bytes of the input, and zeros after them. No stored case is longer than the buffer.
 fn next_bytes(rt: &impl Input, bytes: usize) -> io::Result<[u8; 65536]> {
     let mut buf = [0u8; 65536];
-    read_full(rt, &mut buf[..least(bytes, 65536)])?;
+    reading::read_full(rt, &mut buf[..least(bytes, 65536)])?;
     Ok(buf)
-}
-
-// Reads until buf is full or the input ends.
-fn read_full(rt: &impl Input, buf: &mut [u8]) -> io::Result<()> {
-    let mut reader = rt.reader();
-    let mut n = 0;
-    while n < buf.len() {
-        let more = reader.read(&mut buf[n..])?;
-        if more == 0 {
-            break;
-        }
-        n += more;
-    }
-    Ok(())
 }
 
 // Answers case after case until the input ends, which reads as a case of no bytes.

@@ -187,6 +187,7 @@ fn element_place(count: usize, xy: &[f64; 18], target: Point, r: Reference) -> E
 }
 
 // The seeds of the element search: centre, corners, midsides.
+#[tactic(auto, using(crate::proofs::Constants::zero_bits, crate::proofs::Constants::one_bits, crate::proofs::Constants::minus_one_bits), unfolding(definition::specs::Search::element_seeds))]
 fn element_seed(i: usize) -> Reference
     ensures { result ≡ get_or element_seeds i (reference plus0 plus0) }
 {

@@ -136,6 +136,7 @@ fn face_place(count: usize, xy: &[f64; 18], local_face: u8, target: Point, s: f6
 }
 
 // The seeds of the face search.
+#[tactic(auto, using(crate::proofs::Constants::one_bits, crate::proofs::Constants::minus_one_bits), unfolding(definition::specs::Search::face_seeds))]
 fn face_seed(i: usize) -> f64
     ensures { result ≡ get_or face_seeds i plus0 }
 {

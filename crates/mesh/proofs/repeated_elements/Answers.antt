@@ -24,7 +24,7 @@ loop-element_index-preserved c =
     let e = c.loop-element_index.element_index in
     let m : Mesh = record { family = a.family; nodes = []; elements = a.elements.now } in
     let row : length (element_nodes m e) ≡ nodes_of a.family = row_length m e (rw c.nodes_per_element.ensures.value at c.loop-element_index-test.true) in
-    let test : c.row_repeats.result ≡ few a.family a.elements.now e = rw (c.row_repeats.ensures, c.element_nodes.ensures, row) in
+    let test : c.row_repeats.result ≡ few a.family a.elements.now e = simp (c.row_repeats.ensures, c.element_nodes.ensures, row) in
     let counted = c.loop-element_index.invariant.2 in
     elim c.if-row_repeats.branch [
       | then-row_repeats w ↦ (omega arith, omega arith, w.repeated-is ∙ count_passed (few a.family a.elements.now) e counted (sym test ∙ w.if-row_repeats.true))

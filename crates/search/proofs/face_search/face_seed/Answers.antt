@@ -10,14 +10,6 @@ use Rattle.definition.specs.Binary64.{plus0}
 use Rattle.definition.specs.Search.{face_seeds}
 use Rattle.search.proofs.face_search.face_seed.Goals as goal
 
-pub returns-in-0 : goal.returns-in-0
-unfolding face_seeds of_bits neg
-returns-in-0 c = rw c.in-0.is
-
-pub returns-in-2 : goal.returns-in-2
-unfolding face_seeds of_bits neg
-returns-in-2 c = rw c.in-2.is
-
 pub returns-in_default : goal.returns-in_default
 unfolding face_seeds of_bits neg
 returns-in_default c =

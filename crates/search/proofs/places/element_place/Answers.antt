@@ -4,4 +4,4 @@ use Rattle.search.proofs.places.element_place.Goals as goal
 
 pub returns : goal.returns
 unfolding placed
-returns c = rw (← c.point_of-point.ensures, ← c.squared_distance-square.ensures)
+returns c = rw (c.squared_distance-square.ensures, c.point_of-point.ensures)
