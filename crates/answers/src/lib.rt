@@ -3,30 +3,19 @@
 // Every call has an answer for every list and every number: lengths are divided and no product is made, and a value without a place is left out.
 #![tactic(auto)]
 
-ghost use Rattle.std.specs.Prelude.{◌≡◌, ◌&&◌, ◌*◌, leb, set};
-ghost use Rattle.answers.specs.Stored.{pair_stored, node_stored, element_stored, face_stored};
+mod lent;
 
-use definition::{ElementProjection, FaceProjection, NodeProjection};
+ghost use Rattle.std.specs.Prelude.{◌≡◌, ◌*◌, leb, length, set};
+ghost use Rattle.definition.specs.Query.{query_room};
+ghost use Rattle.answers.specs.Lent.{query_lists, SameLists};
+ghost use Rattle.answers.specs.Stored.{pair_stored, stored};
+
+use definition::{Point, PointAnswer};
+pub use lent::QueryLists;
 
 // ---- one value in its place
 
-fn store_index(p: usize, index: usize, list: &mut [usize])
-    ensures { list.new ≡ set list.old p index }
-{
-    if p < list.len() {
-        list[p] = index;
-    }
-}
-
-fn store_local_face(p: usize, local_face: u8, list: &mut [u8])
-    ensures { list.new ≡ set list.old p local_face }
-{
-    if p < list.len() {
-        list[p] = local_face;
-    }
-}
-
-fn store_float(p: usize, x: f64, list: &mut [f64])
+fn put<T: Copy>(list: &mut [T], p: usize, x: T)
     ensures { list.new ≡ set list.old p x }
 {
     if p < list.len() {
@@ -34,7 +23,7 @@ fn store_float(p: usize, x: f64, list: &mut [f64])
     }
 }
 
-fn store_pair(p: usize, x: f64, y: f64, list: &mut [f64])
+fn put_pair(list: &mut [f64], p: usize, x: f64, y: f64)
     ensures { list.new ≡ pair_stored p x y list.old }
 {
     if p < list.len() / 2 {
@@ -43,111 +32,68 @@ fn store_pair(p: usize, x: f64, y: f64, list: &mut [f64])
     }
 }
 
-// ---- one point's answer in its places
-
-// The nearest node of point p in its places.
-pub fn store_node(
-    p: usize,
-    node: NodeProjection,
-    nearest_node_indices: &mut [usize],
-    nearest_node_points: &mut [f64],
-    nearest_node_distances: &mut [f64],
-)
-    ensures { (nearest_node_indices.new, nearest_node_points.new, nearest_node_distances.new)
-        ≡ node_stored node p (nearest_node_indices.old, nearest_node_points.old, nearest_node_distances.old) }
+fn put_point(list: &mut [f64], p: usize, point: Point)
+    ensures { list.new ≡ pair_stored p point.x point.y list.old }
 {
-    store_index(p, node.node_index, nearest_node_indices);
-    store_pair(p, node.point.x, node.point.y, nearest_node_points);
-    store_float(p, node.distance, nearest_node_distances);
+    put_pair(list, p, point.x, point.y);
 }
 
-// The nearest element of point p in its places.
-pub fn store_element(
-    p: usize,
-    element: ElementProjection,
-    nearest_element_indices: &mut [usize],
-    nearest_element_reference_points: &mut [f64],
-    nearest_element_points: &mut [f64],
-    nearest_element_distances: &mut [f64],
-)
-    ensures { (nearest_element_indices.new, nearest_element_reference_points.new, nearest_element_points.new, nearest_element_distances.new)
-        ≡ element_stored element p (nearest_element_indices.old, nearest_element_reference_points.old, nearest_element_points.old, nearest_element_distances.old) }
+// Whether a list holds two places for each of n points.
+fn holds_pairs(list: &[f64], n: usize) -> bool
+    ensures { result ≡ leb (2 * n) (length list.now) }
 {
-    store_index(p, element.element_index, nearest_element_indices);
-    store_pair(
-        p,
-        element.reference.xi,
-        element.reference.eta,
-        nearest_element_reference_points,
-    );
-    store_pair(p, element.point.x, element.point.y, nearest_element_points);
-    store_float(p, element.distance, nearest_element_distances);
+    n <= list.len() / 2
 }
 
-// The nearest face of point p in its places.
-pub fn store_face(
-    p: usize,
-    face: FaceProjection,
-    nearest_face_element_indices: &mut [usize],
-    nearest_face_local_faces: &mut [u8],
-    nearest_face_reference_coordinates: &mut [f64],
-    nearest_face_points: &mut [f64],
-    nearest_face_distances: &mut [f64],
-)
-    ensures { (nearest_face_element_indices.new, nearest_face_local_faces.new, nearest_face_reference_coordinates.new, nearest_face_points.new, nearest_face_distances.new)
-        ≡ face_stored face p (nearest_face_element_indices.old, nearest_face_local_faces.old, nearest_face_reference_coordinates.old, nearest_face_points.old, nearest_face_distances.old) }
-{
-    store_index(p, face.element_index, nearest_face_element_indices);
-    store_local_face(p, face.local_face, nearest_face_local_faces);
-    store_float(p, face.s, nearest_face_reference_coordinates);
-    store_pair(p, face.point.x, face.point.y, nearest_face_points);
-    store_float(p, face.distance, nearest_face_distances);
-}
+// ---- one point's answer in its places, and room for the answers
 
-// ---- room for the answers
+impl<'a> QueryLists<'a> {
+    // Whether the lists hold the answers of n points.
+    #[tactic(auto, unfolding(definition::specs::Query::query_room))]
+    pub fn has_room(&self, n: usize) -> bool
+        ensures { result ≡ query_room (query_lists self.now) n }
+    {
+        n <= self.nearest_node_indices.len()
+            && holds_pairs(self.nearest_node_points, n)
+            && n <= self.nearest_node_distances.len()
+            && n <= self.nearest_element_indices.len()
+            && holds_pairs(self.nearest_element_reference_points, n)
+            && holds_pairs(self.nearest_element_points, n)
+            && n <= self.nearest_element_distances.len()
+            && n <= self.nearest_face_element_indices.len()
+            && n <= self.nearest_face_local_faces.len()
+            && n <= self.nearest_face_reference_coordinates.len()
+            && holds_pairs(self.nearest_face_points, n)
+            && n <= self.nearest_face_distances.len()
+    }
 
-// Whether a list of len places holds one for each of n points as well.
-fn also_room(others: bool, n: usize, len: usize) -> bool
-    ensures { result ≡ others && leb n len }
-{
-    if others { n <= len } else { false }
-}
-
-// Whether a list of len places holds two for each of n points as well.
-fn also_pairs(others: bool, n: usize, len: usize) -> bool
-    ensures { result ≡ others && leb (2 * n) len }
-{
-    if others { n <= len / 2 } else { false }
-}
-
-// Whether lists of these lengths hold the answers of n points.
-pub fn holds_answers(
-    n: usize,
-    nearest_node_indices: usize,
-    nearest_node_points: usize,
-    nearest_node_distances: usize,
-    nearest_element_indices: usize,
-    nearest_element_reference_points: usize,
-    nearest_element_points: usize,
-    nearest_element_distances: usize,
-    nearest_face_element_indices: usize,
-    nearest_face_local_faces: usize,
-    nearest_face_reference_coordinates: usize,
-    nearest_face_points: usize,
-    nearest_face_distances: usize,
-) -> bool
-    ensures { result ≡ leb n nearest_node_indices && leb (2 * n) nearest_node_points && leb n nearest_node_distances && leb n nearest_element_indices && leb (2 * n) nearest_element_reference_points && leb (2 * n) nearest_element_points && leb n nearest_element_distances && leb n nearest_face_element_indices && leb n nearest_face_local_faces && leb n nearest_face_reference_coordinates && leb (2 * n) nearest_face_points && leb n nearest_face_distances }
-{
-    let mut r = n <= nearest_node_indices;
-    r = also_pairs(r, n, nearest_node_points);
-    r = also_room(r, n, nearest_node_distances);
-    r = also_room(r, n, nearest_element_indices);
-    r = also_pairs(r, n, nearest_element_reference_points);
-    r = also_pairs(r, n, nearest_element_points);
-    r = also_room(r, n, nearest_element_distances);
-    r = also_room(r, n, nearest_face_element_indices);
-    r = also_room(r, n, nearest_face_local_faces);
-    r = also_room(r, n, nearest_face_reference_coordinates);
-    r = also_pairs(r, n, nearest_face_points);
-    also_room(r, n, nearest_face_distances)
+    // The answer of point p in its places.
+    // Kept: that the lists are the same ones is a fact of two values, which no field and no model of one value can hold: a record over the two is the plainest.
+    pub fn store(&mut self, p: usize, answer: PointAnswer)
+        ensures same { SameLists self.old self.new }
+        ensures value { query_lists self.new ≡ stored answer p (query_lists self.old) }
+    {
+        let PointAnswer {
+            node,
+            element,
+            face,
+        } = answer;
+        put(self.nearest_node_indices, p, node.node_index);
+        put_point(self.nearest_node_points, p, node.point);
+        put(self.nearest_node_distances, p, node.distance);
+        put(self.nearest_element_indices, p, element.element_index);
+        put_pair(
+            self.nearest_element_reference_points,
+            p,
+            element.reference.xi,
+            element.reference.eta,
+        );
+        put_point(self.nearest_element_points, p, element.point);
+        put(self.nearest_element_distances, p, element.distance);
+        put(self.nearest_face_element_indices, p, face.element_index);
+        put(self.nearest_face_local_faces, p, face.local_face);
+        put(self.nearest_face_reference_coordinates, p, face.s);
+        put_point(self.nearest_face_points, p, face.point);
+        put(self.nearest_face_distances, p, face.distance);
+    }
 }

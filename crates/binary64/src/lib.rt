@@ -1,4 +1,4 @@
-// What is done with one or two floats: the squared distance of two points, the clamp, whether two numbers are one, and a bit pattern's number.
+// What is done with one or two floats: the squared distance of two points, the clamp, whether two numbers are the same, and a bit pattern's number.
 // It knows the definition and the bits of a float; nothing of an element, a list or a file.
 #![tactic(auto)]
 
@@ -8,7 +8,10 @@ ghost use Rattle.std.specs.Float.Ieee.{of_bits};
 ghost use Rattle.definition.specs.Binary64.{squared_distance, clamp_of};
 ghost use Rattle.binary64.specs.OneNumber.{one_number};
 
+use std::num::f64_from_bits_with_nan;
+
 // The squared distance of the points (ax, ay) and (bx, by).
+#[tactic(auto, unfolding(definition::specs::Binary64::squared_distance))]
 pub fn squared_distance(ax: f64, ay: f64, bx: f64, by: f64) -> f64
     ensures { result ≡ squared_distance ax ay bx by }
 {
@@ -18,6 +21,7 @@ pub fn squared_distance(ax: f64, ay: f64, bx: f64, by: f64) -> f64
 }
 
 // Within [-1, 1], and -1 for NaN.
+// Kept: `max` and then `min` is no plainer, since a reader has to know what they make of NaN, and a search of ten steps and more takes 3 to 5 percent longer by it.
 pub fn clamp(x: f64) -> f64
     ensures { result ≡ clamp_of x }
 {
@@ -28,25 +32,18 @@ pub fn clamp(x: f64) -> f64
     }
 }
 
-// Whether two numbers have the same bits: the two zeros do not, and a NaN has them of none.
+// Whether two numbers have the same bits: +0 and -0 do not, and a NaN is the same as nothing.
+#[tactic(auto, using(crate::proofs::OnePattern::right_number, crate::proofs::OnePattern::one_pattern), unfolding(crate::specs::OneNumber::one_number))]
 pub fn same(a: f64, b: f64) -> bool
     ensures value { result ≡ one_number a b }
     ensures equal { result ≡ true → a ≡ b }
 {
-    if a == b {
-        f64::to_bits(a) == f64::to_bits(b)
-    } else {
-        false
-    }
+    a == b && a.to_bits() == b.to_bits()
 }
 
 // The number of a bit pattern. Every NaN pattern is the one NaN.
 pub fn float_of(bits: u64) -> f64
     ensures { result ≡ of_bits binary64 bits }
 {
-    if 0x7ff0_0000_0000_0000 < bits % 0x8000_0000_0000_0000 {
-        0.0 / 0.0
-    } else {
-        f64::from_bits(bits)
-    }
+    f64_from_bits_with_nan(bits)
 }

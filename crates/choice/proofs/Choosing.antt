@@ -1,4 +1,4 @@
--- The first minimum, found by a walk that goes on to the next one only where it is smaller: by `pick_more`, at one number more. The walk keeps a number and its distance, or whatever has the distance. Assumes nothing.
+-- The first minimum, found by a walk that goes on to the next one only where it is smaller. Assumes nothing.
 use mathlib.Core.Path.{◌≡◌, refl, ap, ◌∙◌}
 use mathlib.Core.Bool.{Bool, true, false, cond}
 use Prim.Native.Nat.{ℕ, ◌+◌}
@@ -6,35 +6,57 @@ use native.Mathlib.Numerals.{add-one}
 use lib.Dec.{T, not_T}
 use lib.Ieee.{Float, binary64, fits, lt}
 use lib.Ieee.Bits.{is_false}
+use Rattle.std.proofs.Common.{Option, Some, None}
 use Rattle.definition.specs.Root.{root_of}
 use Rattle.definition.specs.Choice.{pick}
+use Rattle.definition.specs.Search.{nearer}
+use Rattle.definition.specs.declared.Best.{Best}
 use Rattle.definition.proofs.Root.{root_not_lt}
 use Rattle.definition.proofs.Choice.{pick_more}
+use Rattle.choice.specs.Nearest.{distance_to, IsNearest}
+use Rattle.choice.specs.declared.near.Near.{Near}
 
-pub pick_next : (d : ℕ → Float) (n : ℕ) → pick d (n + 1) ≡ cond (lt (d n) (d (pick d n))) n (pick d n)
+-- one more, also where it is the first
+pick_next : (d : ℕ → Float) (n : ℕ) → pick d (n + 1) ≡ cond (lt (d n) (d (pick d n))) n (pick d n)
 pick_next d n = ap (pick d) (add-one n) ∙ pick_more d n
 
--- the number of the best so far, with its distance beside it
-module _ (d : ℕ → Float) (n : ℕ) {best next : ℕ} {least new kept : Float} (p : best ≡ pick d n) (q : least ≡ d best) (r : new ≡ d n) where
-  pub goes_on : lt new least ≡ true → next ≡ n → kept ≡ new → (next ≡ pick d (n + 1)) × (kept ≡ d next)
-  goes_on h i j =
-      let t : lt (d n) (d (pick d n)) ≡ true = cc (h, p, q, r) in
-      (rw (i, pick_next d n, t) refl, rw (i, j) r)
-
-  pub stays : lt new least ≡ false → next ≡ best → kept ≡ least → (next ≡ pick d (n + 1)) × (kept ≡ d next)
-  stays h i j =
-      let t : lt (d n) (d (pick d n)) ≡ false = cc (h, p, q, r) in
-      (rw (i, p, pick_next d n, t) refl, rw (i, j) q)
-
--- the best so far itself, of whatever has a distance
-pub chosen_more : {A : Type 0} (answer : ℕ → A) (distance : A → Float) (n : ℕ) {best next : A} → best ≡ answer (pick (λ i. distance (answer i)) n) → next ≡ answer n →
-    cond (lt (distance next) (distance best)) next best ≡ answer (pick (λ i. distance (answer i)) (n + 1))
-chosen_more answer distance n p q = rw (p, q, pick_next (λ i. distance (answer i)) n) (by (lt (distance (answer n)) (distance (answer (pick (λ i. distance (answer i)) n)))))
+-- places compare their squares
+pub place_more : {A : Type 0} (place : ℕ → Best A) (n : ℕ) {best next : Best A} → best ≡ place (pick (λ i. (place i).square) n) → next ≡ place n → nearer best next ≡ place (pick (λ i. (place i).square) (n + 1))
+unfolding nearer
+place_more place n p q = rw (p, q, pick_next (λ i. (place i).square) n) (by (lt (place n).square (place (pick (λ i. (place i).square) n)).square))
   where
-    by : (b : Bool) → cond b (answer n) (answer (pick (λ i. distance (answer i)) n)) ≡ answer (cond b n (pick (λ i. distance (answer i)) n))
+    by : (b : Bool) → cond b (place n) (place (pick (λ i. (place i).square) n)) ≡ place (cond b n (pick (λ i. (place i).square) n))
     by true = refl
     by false = refl
+
+-- elements and faces compare their distances
+module _ {A : Type 0} (found_at : ℕ → Best A) (n : ℕ) (near : Near A) {found : Best A} (nearest : IsNearest found_at n near) (here : found ≡ found_at n) where
+  pub taken : lt (root_of found.square) near.distance ≡ true → (n ≡ pick (distance_to found_at) (n + 1)) × (found ≡ found_at n)
+  taken h =
+      let d = distance_to found_at in
+      let t : lt (d n) (d (pick d n)) ≡ true = cc (nearest.0, nearest.1, here, near.rooted, h) in
+      (rw (pick_next d n, t) refl, here)
+
+  pub kept : lt (root_of found.square) near.distance ≡ false → IsNearest found_at (n + 1) near
+  kept h =
+      let d = distance_to found_at in
+      let t : lt (d n) (d (pick d n)) ≡ false = cc (nearest.0, nearest.1, here, near.rooted, h) in
+      (rw (pick_next d n, t) nearest.0, nearest.1)
+
+module _ {A : Type 0} (found_at : ℕ → Best A) (near : Near A) where
+  pub first_is : near.number ≡ 0 → near.best ≡ found_at 0 → IsNearest found_at 0 near
+  unfolding pick
+  first_is i b = (i, rw i b)
 
 -- the root keeps the order: where a square is not smaller, its root is not
 pub rooted_not_smaller : (x y : Float) → T (fits binary64 x) → T (fits binary64 y) → lt x y ≡ false → lt (root_of x) (root_of y) ≡ false
 rooted_not_smaller x y f g h = is_false (lt (root_of x) (root_of y)) (not_T (lt (root_of x) (root_of y)) (root_not_lt x y f g (λ t. rw h at t)))
+
+-- what an answer says of its test
+pub is_smaller : (b : Bool) (x : Float) {y : Float} {r : Option Float} → r ≡ cond b (Some x) None → r ≡ Some y → b ≡ true
+is_smaller true x p q = refl
+is_smaller false x p q = cc
+
+pub is_no_smaller : (b : Bool) (x : Float) {r : Option Float} → r ≡ cond b (Some x) None → r ≡ None → b ≡ false
+is_no_smaller true x p q = cc
+is_no_smaller false x p q = refl

@@ -1,3 +1,3 @@
--- Laws that the proofs share: of a first minimum found by a walk, and of one element more.
-mod Choosing
-mod Walk
+-- Laws that the proofs share: of the first minimum, and of what the searches find on each element.
+pub mod Choosing
+pub mod Places

@@ -1,7 +1,9 @@
--- The part of a mesh that the choice of a node reads.
-use Rattle.std.specs.Prelude.{List, [], Float}
-use Rattle.definition.specs.Mesh.{Mesh}
+-- Nodes as places of a search: the nearest is found as a search finds it.
+use Rattle.std.specs.Prelude.{ℕ}
+use Rattle.definition.specs.Choice.{node_square}
+use Rattle.definition.specs.Mesh.{Mesh, pair_at}
+use Rattle.definition.specs.declared.Best.{Best}
+use Rattle.definition.specs.declared.Point.{Point}
 
--- a mesh of these nodes and no element
-abbrev pub nodes : List Float → Mesh
-nodes l = record { family = 4; nodes = l; elements = [] }
+abbrev pub node_place : Mesh → Point → ℕ → Best ℕ
+node_place m t i = record { at = i; point = pair_at m.nodes i; square = node_square m 0 t i }

@@ -2,6 +2,7 @@
 // It knows the definition, the searches, the root and the mesh; nothing of lent lists.
 #![tactic(auto)]
 
+mod near;
 mod nearest;
 mod nodes;
 

@@ -1,46 +1,49 @@
 // The nearest node of a point, by squared distance, and the first of those that tie.
-// It knows the definition, the lists and the root; nothing of elements and faces.
+// It knows the definition, the mesh and the root; nothing of elements and faces.
+
 ghost use Rattle.std.specs.Prelude.{◌≡◌};
 ghost use Rattle.definition.specs.Mesh.{node_count};
 ghost use Rattle.definition.specs.Choice.{pick, node_square, node_answer};
-ghost use Rattle.choice.specs.Nodes.{nodes};
+ghost use Rattle.choice.specs.Nodes.{node_place};
 
-use definition::{NodeProjection, Point};
+use definition::{Best, NodeProjection, Point};
+use mesh::QuadMesh;
 
-fn node_square(nodes_rz: &[f64], node_index: usize, target: Point) -> f64
-    ensures { result ≡ node_square (nodes nodes_rz.now) 0 target node_index }
+// Node `node_index` as a place of a search.
+// Kept: a node is no search, so one function for this and `searching::place` would need a trait around two lines, and is no plainer; nor is a struct of a mesh and a target, which are two values of the definition.
+fn node_place(mesh: &QuadMesh, node_index: usize, target: Point) -> Best<usize>
+    ensures { result ≡ node_place mesh.now target node_index }
 {
-    let p = lists::pair_at(nodes_rz, node_index);
-    binary64::squared_distance(p.x, p.y, target.x, target.y)
+    let point = mesh.node(node_index);
+    let square = binary64::squared_distance(point.x, point.y, target.x, target.y);
+    Best {
+        at: node_index,
+        point,
+        square,
+    }
 }
 
 // The first node of the least squared distance, 0 where there is none.
-fn nearest_node(nodes_rz: &[f64], target: Point) -> usize
-    ensures { result ≡ pick (node_square (nodes nodes_rz.now) 0 target) (node_count (nodes nodes_rz.now)) }
+// Kept: a mesh and a target are two values of the definition, and a struct made for these functions alone is no plainer.
+fn nearest_node(mesh: &QuadMesh, target: Point) -> Best<usize>
+    ensures { result ≡ node_place mesh.now target (pick (node_square mesh.now 0 target) (node_count mesh.now)) }
 {
-    let count = nodes_rz.len() / 2;
-    let mut best: usize = 0;
-    let mut best_square = node_square(nodes_rz, 0, target);
-    let mut node_index: usize = 0;
-    while node_index < count {
-        let square = node_square(nodes_rz, node_index, target);
-        if square < best_square {
-            best = node_index;
-            best_square = square;
-        }
-        node_index += 1;
+    let mut best = node_place(mesh, 0, target);
+    for node_index in 0..mesh.num_nodes() {
+        best = search::nearer(best, node_place(mesh, node_index, target));
     }
     best
 }
 
 // The nearest node, by squared distance. Where there is none it is node 0, at NaN.
-pub fn nearest_node_projection(nodes_rz: &[f64], target: Point) -> NodeProjection
-    ensures { let m = nodes nodes_rz.now in result ≡ node_answer m 0 target (pick (node_square m 0 target) (node_count m)) }
+// Kept: a mesh and a target are two values of the definition, and a struct made for these functions alone is no plainer.
+pub fn nearest_node_projection(mesh: &QuadMesh, target: Point) -> NodeProjection
+    ensures { result ≡ node_answer mesh.now 0 target (pick (node_square mesh.now 0 target) (node_count mesh.now)) }
 {
-    let node_index = nearest_node(nodes_rz, target);
+    let Best { at, point, square } = nearest_node(mesh, target);
     NodeProjection {
-        node_index,
-        point: lists::pair_at(nodes_rz, node_index),
-        distance: root::root(node_square(nodes_rz, node_index, target)),
+        node_index: at,
+        point,
+        distance: root::root(square),
     }
 }

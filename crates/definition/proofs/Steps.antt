@@ -9,7 +9,9 @@ use lib.ListN.{replicate}
 use lib.Ieee.{eq, le}
 use Rattle.definition.specs.Lists.{each}
 use Rattle.definition.specs.Binary64.{◌⊕◌, ◌⊖◌, plus0, one, two, minus_one}
-use Rattle.definition.specs.Search.{Best, stay, last, best_of, reference, ended_element, element_seeds, element_best}
+use Rattle.definition.specs.declared.Best.{Best}
+use Rattle.definition.specs.declared.Step.TheVariants.{Stay, Last}
+use Rattle.definition.specs.Search.{best_of, reference, ended_element, element_seeds, element_best}
 use Rattle.definition.specs.declared.Point.{Point}
 use Rattle.definition.specs.declared.Reference.{Reference}
 use Rattle.definition.proofs.Computing.{searching}
@@ -29,7 +31,7 @@ abbrev from_seed : ℕ → Reference → Point
 from_seed i r = at (cond (ltb (seed_number r) i) one plus0) plus0
 
 seeds_in_order :
-    each (λ i. (best_of (from_seed i) (λ r. stay) (at plus0 plus0) 0 (reference plus0 plus0) element_seeds 9).at ∷ []) 9
+    each (λ i. (best_of (from_seed i) (λ r. Stay) (at plus0 plus0) 0 (reference plus0 plus0) element_seeds 9).at ∷ []) 9
     ≡ reference plus0 plus0
     ∷ reference minus_one minus_one ∷ reference one minus_one ∷ reference one one ∷ reference minus_one one
     ∷ reference plus0 minus_one ∷ reference one plus0 ∷ reference plus0 one ∷ reference minus_one plus0
@@ -44,7 +46,7 @@ carried r = reference (r.xi ⊕ (two ⊕ two)) r.eta
 abbrev pub carried_from : ℕ → Best Reference
 carried_from i =
     best_of (λ r. at (cond (le two r.xi && eqb (seed_number (reference (r.xi ⊖ (two ⊕ two)) r.eta)) i) plus0 one) plus0)
-    (λ r. last (carried r)) (at plus0 plus0) 1 (reference plus0 plus0) element_seeds 9
+    (λ r. Last (carried r)) (at plus0 plus0) 1 (reference plus0 plus0) element_seeds 9
 
 last_seed_steps : (carried_from 8).at ≡ carried (reference minus_one plus0)
 unfolding searching
@@ -59,6 +61,6 @@ last_seed_is_tried = refl
 
 -- ---- ".. or after a step whose squared length is at most 2^-104": the step is made
 
-short_step_is_made : ended_element (reference plus0 plus0) (reference (two_to_minus 52) plus0) ≡ last (reference (two_to_minus 52) plus0)
+short_step_is_made : ended_element (reference plus0 plus0) (reference (two_to_minus 52) plus0) ≡ Last (reference (two_to_minus 52) plus0)
 unfolding searching
 short_step_is_made = refl

@@ -1,5 +1,5 @@
 -- The job file and its listing: from the bytes of standard input to the bytes of standard output.
-use Rattle.std.specs.Prelude.{◌≡◌, Bool, true, false, cond, ◌&&◌, List, [], ◌∷◌, ◌++◌, map, ℕ, zero, suc, ◌+◌, ◌*◌, ◌/◌, ◌%◌, leb, ltb, eqb, length, get_or, replicate, Float}
+use Rattle.std.specs.Prelude.{◌≡◌, Result, Bool, true, false, cond, ◌&&◌, List, [], ◌∷◌, ◌++◌, map, ℕ, zero, suc, ◌+◌, ◌*◌, ◌/◌, ◌%◌, leb, ltb, eqb, length, get_or, replicate, Float}
 use Rattle.std.specs.Bool.{beq}
 use Prim.Native.Char.{code}
 use Prim.Native.String.{String}
@@ -8,11 +8,11 @@ use Rattle.std.specs.Float.Ieee.{is_nan, of_bits, to_bits}
 use Rattle.definition.specs.Lists.{each, over}
 use Rattle.definition.specs.Binary64.{plus0}
 use Rattle.definition.specs.Elements.{nodes_of}
-use Rattle.definition.specs.Questions.{Question, ask, Outcome, accepted, refused, asked, is_family}
-use Rattle.definition.specs.Query.{QueryCall, QueryLists, QueryCounts, answer_at, queried}
+use Rattle.definition.specs.Questions.{Question, ask, Outcome, accepted, refused, asked, outcome, is_family}
+use Rattle.definition.specs.Query.{QueryCall, QueryLists, answer_at, queried}
 use Rattle.definition.specs.declared.PointAnswer.{PointAnswer}
-use Rattle.definition.specs.declared.JobAnswer.{JobAnswer}
-use Rattle.definition.specs.declared.JobAnswer.TheVariants.{Listed, Refused}
+use Rattle.definition.specs.declared.QueryCounts.{QueryCounts}
+use Rattle.definition.specs.declared.Refusal.{Refusal}
 
 -- ASCII
 abbrev pub text : String → List ℕ
@@ -218,11 +218,7 @@ listing bytes = job_listing (read_job bytes)
 abbrev pub longest_listing : ℕ
 longest_listing = 18 + 256 * 120
 
--- the enum in document 01's words. A job's own refusal is a listing too, the line that `refusal_line` gives; this call refuses only an output that is too short
-abbrev pub job_outcome : JobAnswer → Outcome ℕ
-job_outcome (Listed bytes) = accepted bytes
-job_outcome (Refused question place) = refused question place
-
+-- a job's own refusal is a listing too, the line that `refusal_line` gives; this call refuses only an output that is too short
 unfoldable pub job_answered : List ℕ → List ℕ → Outcome ℕ
 job_answered bytes lent = asked (ask 7 0 (leb longest_listing (length lent)) ∷ []) (length (listing bytes))
 
@@ -231,6 +227,6 @@ listing_over bytes (accepted n) lent = over (listing bytes) lent
 listing_over bytes (refused number place) lent = lent
 
 -- THE PROMISE of the job's call: given a job's bytes and lent the output `before`, it answers `answer` and leaves the output `after`
-pub record JobPromise (bytes before : List ℕ) (answer : JobAnswer) (after : List ℕ) : Type 0 where
-  pub answers : job_outcome answer ≡ job_answered bytes before
+pub record JobPromise (bytes before : List ℕ) (answer : Result ℕ Refusal) (after : List ℕ) : Type 0 where
+  pub answers : outcome answer ≡ job_answered bytes before
   pub leaves : after ≡ listing_over bytes (job_answered bytes before) before

@@ -1,17 +1,17 @@
 -- The three operators: their questions, their answers and their three lent lists. "A sparse operator is its number of rows, its number of columns (the nodes, or twice the nodes for strain and stress) and a list of (row, column, value)".
-use Rattle.std.specs.Prelude.{◌≡◌, Bool, ◌&&◌, List, [], ◌∷◌, ◌++◌, map, ℕ, ◌*◌, leb, length, get_or, Float}
+use Rattle.std.specs.Prelude.{◌≡◌, Result, Bool, ◌&&◌, List, [], ◌∷◌, ◌++◌, map, ℕ, ◌*◌, leb, length, get_or, Float}
 use Rattle.std.specs.Float.{nan}
 use Rattle.definition.specs.Lists.{each, over}
 use Rattle.definition.specs.Elements.{nodes_of, shape_of}
 use Rattle.definition.specs.Mapping.{first, second}
 use Rattle.definition.specs.Mesh.{Mesh, node_count, gathered, node_of}
-use Rattle.definition.specs.Questions.{Question, Outcome, accepted, refused, asked, family_known, nodes_whole, elements_whole, references_whole, materials_whole, room, node_numbers, numbers_match, materials_match, pairs_match, element_known, material_known, not_inverted, off_axis}
+use Rattle.definition.specs.Questions.{Question, Outcome, accepted, refused, asked, outcome, family_known, nodes_whole, elements_whole, references_whole, materials_whole, room, node_numbers, numbers_match, materials_match, pairs_match, element_known, material_known, not_inverted, off_axis}
 use Rattle.definition.specs.Rows.{Triplet, point_triplets, Basis, basis_at, strain_entry, stress_entry, oriented_material}
 use Rattle.definition.specs.declared.Reference.{Reference}
 use Rattle.definition.specs.declared.GatheredElement.{GatheredElement}
 use Rattle.definition.specs.declared.Structural2dFormulation.{Structural2dFormulation}
-use Rattle.definition.specs.declared.OperatorAnswer.{OperatorAnswer}
-use Rattle.definition.specs.declared.OperatorAnswer.TheVariants.{Built, Refused}
+use Rattle.definition.specs.declared.OperatorCounts.{OperatorCounts}
+use Rattle.definition.specs.declared.Refusal.{Refusal}
 
 -- ---- what the operators are given and lent
 
@@ -54,17 +54,7 @@ pub record Operator : Type 0 where
   pub columns : ℕ
   pub triplets : List Triplet
 
--- the numbers of an accepted operator
-pub record OperatorCounts : Type 0 where
-  pub rows : ℕ
-  pub columns : ℕ
-  pub triplets : ℕ
-
--- the enum in document 01's words
-abbrev pub operator_outcome : OperatorAnswer → Outcome OperatorCounts
-operator_outcome (Built rows columns triplets) = accepted (record { rows = rows; columns = columns; triplets = triplets })
-operator_outcome (Refused question place) = refused question place
-
+-- its numbers of rows, columns and triplets
 unfoldable pub operated : Operator → Outcome OperatorCounts
 operated o = asked o.questions (record { rows = o.rows; columns = o.columns; triplets = length o.triplets })
 
@@ -82,8 +72,8 @@ abbrev pub triplet_lists : Operator → Outcome OperatorCounts → TripletLists 
 triplet_lists o (accepted counts) lent = triplets_over o.triplets lent
 triplet_lists o (refused number place) lent = lent
 
-pub record OperatorPromise (o : Operator) (before : TripletLists) (answer : OperatorAnswer) (after : TripletLists) : Type 0 where
-  pub answers : operator_outcome answer ≡ operated o
+pub record OperatorPromise (o : Operator) (before : TripletLists) (answer : Result OperatorCounts Refusal) (after : TripletLists) : Type 0 where
+  pub answers : outcome answer ≡ operated o
   pub leaves : after ≡ triplet_lists o (operated o) before
 
 -- ---- questions and rows that operators share
@@ -129,7 +119,7 @@ interpolation c lent =
     (λ p i j d. get_or (shape_of c.mesh.family (reference_at c p).xi (reference_at c p).eta) j nan)
 
 -- THE PROMISE of `quad_mesh_interpolation_operator`
-abbrev pub InterpolationPromise : InterpolationCall → TripletLists → OperatorAnswer → TripletLists → Type 0
+abbrev pub InterpolationPromise : InterpolationCall → TripletLists → Result OperatorCounts Refusal → TripletLists → Type 0
 InterpolationPromise c before answer after = OperatorPromise (interpolation c before) before answer after
 
 -- ---- `quad_mesh_strain_operator`: "four rows a point, columns 2 × node + component". Questions 1, 2, 3, 5, 7, 8, 11, and for each point 14, 16, 17
@@ -155,7 +145,7 @@ unfoldable pub strain : StrainCall → TripletLists → Operator
 strain c lent = operator_of c.base (strain_questions c lent) 4 2 (λ p. strain_entry c.formulation (basis_of c.base p))
 
 -- THE PROMISE of `quad_mesh_strain_operator`
-abbrev pub StrainPromise : StrainCall → TripletLists → OperatorAnswer → TripletLists → Type 0
+abbrev pub StrainPromise : StrainCall → TripletLists → Result OperatorCounts Refusal → TripletLists → Type 0
 StrainPromise c before answer after = OperatorPromise (strain c before) before answer after
 
 -- ---- `quad_mesh_stress_operator`. Questions 1, 2, 3, 5, 6, 7, 8, 11, 12, 13, and for each point 14, 15, 16, 17
@@ -185,5 +175,5 @@ unfoldable pub stress : StressCall → TripletLists → Operator
 stress c lent = operator_of c.base (stress_questions c lent) 4 2 (λ p. stress_entry (oriented_at c p) c.formulation (basis_of c.base p))
 
 -- THE PROMISE of `quad_mesh_stress_operator`
-abbrev pub StressPromise : StressCall → TripletLists → OperatorAnswer → TripletLists → Type 0
+abbrev pub StressPromise : StressCall → TripletLists → Result OperatorCounts Refusal → TripletLists → Type 0
 StressPromise c before answer after = OperatorPromise (stress c before) before answer after

@@ -1,15 +1,15 @@
 -- The query: its questions, its answer and its twelve lent lists.
-use Rattle.std.specs.Prelude.{◌≡◌, Bool, ◌&&◌, List, [], ◌∷◌, ◌++◌, ℕ, ◌*◌, leb, length, Float}
+use Rattle.std.specs.Prelude.{◌≡◌, Result, Bool, ◌&&◌, List, [], ◌∷◌, ◌++◌, ℕ, ◌*◌, leb, length, Float}
 use Rattle.std.specs.Float.Ieee.{eq}
 use Rattle.definition.specs.Lists.{each, over, count_of}
 use Rattle.definition.specs.Binary64.{plus0}
 use Rattle.definition.specs.Mesh.{Mesh, pair_count, pair_at, repeated_count}
 use Rattle.definition.specs.Choice.{point_answer}
-use Rattle.definition.specs.Questions.{Question, Outcome, accepted, refused, asked, family_known, nodes_whole, elements_whole, iterations_few, points_whole, room, node_numbers, some_node, some_element}
+use Rattle.definition.specs.Questions.{Question, Outcome, accepted, refused, asked, outcome, family_known, nodes_whole, elements_whole, iterations_few, points_whole, room, node_numbers, some_node, some_element}
 use Rattle.definition.specs.declared.Point.{Point}
 use Rattle.definition.specs.declared.PointAnswer.{PointAnswer}
-use Rattle.definition.specs.declared.QueryAnswer.{QueryAnswer}
-use Rattle.definition.specs.declared.QueryAnswer.TheVariants.{Accepted, Refused}
+use Rattle.definition.specs.declared.QueryCounts.{QueryCounts}
+use Rattle.definition.specs.declared.Refusal.{Refusal}
 
 -- what a query is given
 pub record QueryCall : Type 0 where
@@ -31,17 +31,6 @@ pub record QueryLists : Type 0 where
   pub face_coordinates : List Float
   pub face_points : List Float
   pub face_distances : List Float
-
--- the numbers of an accepted query: points, elements with fewer than F distinct nodes, points inside
-pub record QueryCounts : Type 0 where
-  pub points : ℕ
-  pub repeated : ℕ
-  pub inside : ℕ
-
--- the enum in document 01's words
-abbrev pub query_outcome : QueryAnswer → Outcome QueryCounts
-query_outcome (Accepted points repeated inside) = accepted (record { points = points; repeated = repeated; inside = inside })
-query_outcome (Refused question place) = refused question place
 
 -- "one place a point for the query, two where the answer is a pair of coordinates"
 unfoldable pub query_room : QueryLists → ℕ → Bool
@@ -75,6 +64,7 @@ answer_at q p = point_answer q.mesh q.iterations (pair_at q.points p)
 unfoldable pub inside_count : QueryCall → ℕ
 inside_count q = count_of (λ p. eq (answer_at q p).element.distance plus0) (pair_count q.points)
 
+-- what a query answers: the numbers of points, of elements with fewer than F distinct nodes and of points inside
 unfoldable pub queried : QueryCall → QueryLists → Outcome QueryCounts
 queried q lent = asked (query_questions q lent) (record { points = pair_count q.points; repeated = repeated_count q.mesh; inside = inside_count q })
 
@@ -109,6 +99,6 @@ query_lists q (accepted counts) lent = answers_over q counts.points lent
 query_lists q (refused number place) lent = lent
 
 -- THE PROMISE of `query_quad_mesh`: given q, and lent the lists `before`, it answers `answer` and leaves the lists `after`
-pub record QueryPromise (q : QueryCall) (before : QueryLists) (answer : QueryAnswer) (after : QueryLists) : Type 0 where
-  pub answers : query_outcome answer ≡ queried q before
+pub record QueryPromise (q : QueryCall) (before : QueryLists) (answer : Result QueryCounts Refusal) (after : QueryLists) : Type 0 where
+  pub answers : outcome answer ≡ queried q before
   pub leaves : after ≡ query_lists q (queried q before) before

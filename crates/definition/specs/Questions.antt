@@ -1,5 +1,5 @@
 -- "A call asks those that concern it. The first "no" returns the number and a place: the element for 8, the point for 14 to 17, the record for a job file's own questions, else 0."
-use Rattle.std.specs.Prelude.{Bool, not, cond, ◌&&◌, ◌||◌, List, [], ◌∷◌, ℕ, ◌/◌, ◌%◌, leb, ltb, eqb, length, Float}
+use Rattle.std.specs.Prelude.{Result, Ok, Err, Bool, not, cond, ◌&&◌, ◌||◌, List, [], ◌∷◌, ℕ, ◌/◌, ◌%◌, leb, ltb, eqb, length, Float}
 use Rattle.std.specs.Float.Ieee.{le}
 use Rattle.definition.specs.Lists.{each, every}
 use Rattle.definition.specs.Binary64.{plus0, epsilon}
@@ -8,8 +8,9 @@ use Rattle.definition.specs.Mapping.{det_j, point_at, jacobian_at}
 use Rattle.definition.specs.Mesh.{Mesh, node_count, element_count, pair_count, node_of}
 use Rattle.definition.specs.declared.Reference.{Reference}
 use Rattle.definition.specs.declared.GatheredElement.{GatheredElement}
-use Rattle.definition.specs.declared.Verdict.{Verdict}
-use Rattle.definition.specs.declared.Verdict.TheVariants.{Passed, Refused}
+use Rattle.definition.specs.declared.Refusal.{Refusal}
+use Rattle.definition.specs.declared.QuestionKind.{QuestionKind}
+use Rattle.definition.specs.declared.QuestionKind.TheVariants.{FamilyKnown, NodesWhole, ElementsWhole, IterationsFew, PointsWhole, MaterialsWhole, Room, NodeNumbers, SomeNode, SomeElement, NumbersMatch, MaterialsMatch, PairsMatch, ElementKnown, MaterialKnown, NotInverted, OffAxis, MarkKnown, HeadFirst, BodyWhole, WithinLimits}
 use Rattle.definition.specs.declared.Structural2dFormulation.{Structural2dFormulation}
 use Rattle.definition.specs.declared.Structural2dFormulation.TheVariants.{Axisymmetric, PlaneStrain}
 
@@ -37,10 +38,34 @@ abbrev pub onward : {A B : Type 0} → Outcome A → Outcome B → Outcome B
 onward (accepted v) o = o
 onward (refused number place) o = refused number place
 
--- the enum of a part of a call's questions, in document 01's words
-abbrev pub verdict_outcome : Verdict → Outcome (Unit {0})
-verdict_outcome Passed = accepted tt
-verdict_outcome (Refused question place) = refused question place
+-- the number that document 01 gives a question
+abbrev pub number_of : QuestionKind → ℕ
+number_of FamilyKnown = 1
+number_of NodesWhole = 2
+number_of ElementsWhole = 3
+number_of IterationsFew = 4
+number_of PointsWhole = 5
+number_of MaterialsWhole = 6
+number_of Room = 7
+number_of NodeNumbers = 8
+number_of SomeNode = 9
+number_of SomeElement = 10
+number_of NumbersMatch = 11
+number_of MaterialsMatch = 12
+number_of PairsMatch = 13
+number_of ElementKnown = 14
+number_of MaterialKnown = 15
+number_of NotInverted = 16
+number_of OffAxis = 17
+number_of MarkKnown = 18
+number_of HeadFirst = 19
+number_of BodyWhole = 20
+number_of WithinLimits = 21
+
+-- what a call returns, in document 01's words
+abbrev pub outcome : {A : Type 0} → Result A Refusal → Outcome A
+outcome (Ok v) = accepted v
+outcome (Err r) = refused (number_of r.question) r.place
 
 -- ---- the questions, each with its number and its place
 

@@ -1,19 +1,20 @@
 -- Demand 3: what a renumbering of nodes, elements and points keeps. This is the statement; `proofs/Renumbering.antt` proves it.
 -- "A renumbering permutes the nodes, with the connectivity's numbers changed to match; the elements, with their material numbers and pairs; and the points. The order inside an element's row stays, so faces and coordinates do too. The lent outputs keep their lengths. All other arguments stay".
-use Rattle.std.specs.Prelude.{◌≡◌, true, false, cond, List, [], ◌∷◌, map, ℕ, ◌+◌, ◌*◌, ◌/◌, ◌%◌, ◌<◌, eqb, length, get_or, take, Float}
+use Rattle.std.specs.Prelude.{◌≡◌, Result, true, false, cond, List, [], ◌∷◌, map, ℕ, ◌+◌, ◌*◌, ◌/◌, ◌%◌, ◌<◌, eqb, length, get_or, take, Float}
 use Rattle.std.specs.Float.{nan}
 use Rattle.std.specs.Float.Ieee.{lt, is_nan}
 use Rattle.definition.specs.Lists.{each}
 use Rattle.definition.specs.Elements.{nodes_of}
 use Rattle.definition.specs.Mesh.{Mesh, node_count, element_count, pair_count, pair_at}
 use Rattle.definition.specs.Choice.{node_square, node_distance, element_distance, face_distance}
-use Rattle.definition.specs.Questions.{Outcome, accepted, refused}
-use Rattle.definition.specs.Query.{QueryCall, QueryLists, QueryCounts, query_outcome, QueryPromise}
+use Rattle.definition.specs.Questions.{outcome, Outcome, accepted, refused}
+use Rattle.definition.specs.Query.{QueryCall, QueryLists, QueryPromise}
 use Rattle.definition.specs.Rows.{Triplet}
-use Rattle.definition.specs.Operators.{InterpolationCall, StrainCall, StressCall, TripletLists, Operator, OperatorCounts, operator_outcome, OperatorPromise, interpolation, strain, stress}
+use Rattle.definition.specs.Operators.{InterpolationCall, StrainCall, StressCall, TripletLists, Operator, OperatorPromise, interpolation, strain, stress}
 use Rattle.definition.specs.declared.Point.{Point}
-use Rattle.definition.specs.declared.QueryAnswer.{QueryAnswer}
-use Rattle.definition.specs.declared.OperatorAnswer.{OperatorAnswer}
+use Rattle.definition.specs.declared.QueryCounts.{QueryCounts}
+use Rattle.definition.specs.declared.OperatorCounts.{OperatorCounts}
+use Rattle.definition.specs.declared.Refusal.{Refusal}
 
 -- ---- permutations, and lists whose records are moved
 
@@ -87,15 +88,15 @@ pub record TwoQueries : Type 0 where
   pub before' : QueryLists
   pub after : QueryLists
   pub after' : QueryLists
-  pub answer : QueryAnswer
-  pub answer' : QueryAnswer
+  pub answer : Result QueryCounts Refusal
+  pub answer' : Result QueryCounts Refusal
   pub promise : QueryPromise query before answer after
   pub promise' : QueryPromise query' before' answer' after'
   pub order : Renumbering query
   pub renumbered : Renumbered query order query'
   pub lengths : SameLengths before before'
   pub counts : QueryCounts
-  pub passed : query_outcome answer ≡ accepted counts
+  pub passed : outcome answer ≡ accepted counts
   pub no_nan : (p : ℕ) → p < pair_count query.points → NoNan query.mesh query.iterations (pair_at query.points p)
 
 -- number b is the first of the nearest: none of the n distances is smaller, and every earlier one is larger
@@ -123,9 +124,9 @@ pub record SameDistances (l : QueryLists) (p : ℕ) (l' : QueryLists) (p' : ℕ)
   pub face : get_or l'.face_distances p' nan ≡ get_or l.face_distances p nan
 
 -- "The renumbered query is accepted too. Each point keeps its three distances, bit for bit. Each is the least .. Of those that tie, the first in the new order is named."
-pub record QueryKept (q : QueryCall) (r : Renumbering q) (q' : QueryCall) (counts : QueryCounts) (after after' : QueryLists) (answer' : QueryAnswer) : Type 0 where
+pub record QueryKept (q : QueryCall) (r : Renumbering q) (q' : QueryCall) (counts : QueryCounts) (after after' : QueryLists) (answer' : Result QueryCounts Refusal) : Type 0 where
   pub counts' : QueryCounts
-  pub passed' : query_outcome answer' ≡ accepted counts'
+  pub passed' : outcome answer' ≡ accepted counts'
   pub points' : counts'.points ≡ counts.points
   pub distances : (p : ℕ) → p < counts.points → SameDistances after p after' (r.to_p p)
   pub chosen : (p : ℕ) → p < counts.points → Chosen q after p
@@ -198,14 +199,14 @@ pub record TwoOperators (q q' : QueryCall) (l l' : QueryLists) (n : ℕ) (c c' :
   pub after : TripletLists
   pub after' : TripletLists
   pub lengths : SameTripletLengths before before'
-  pub answer : OperatorAnswer
-  pub answer' : OperatorAnswer
+  pub answer : Result OperatorCounts Refusal
+  pub answer' : Result OperatorCounts Refusal
   pub promise : OperatorPromise (o before) before answer after
   pub promise' : OperatorPromise (o' before') before' answer' after'
 
 -- they agree, with k rows a point and c columns a node
 abbrev pub OperatorKept : (k c : ℕ) {q q' : QueryCall} {l l' : QueryLists} {n : ℕ} {a a' : InterpolationCall} {o o' : TripletLists → Operator} → (ℕ → ℕ) → (ℕ → ℕ) → TwoOperators q q' l l' n a a' o o' → Type 0
-OperatorKept k c {n = n} to_p to_n r = BothTimes k c n to_p to_n r.after r.after' (operator_outcome r.answer) (operator_outcome r.answer')
+OperatorKept k c {n = n} to_p to_n r = BothTimes k c n to_p to_n r.after r.after' (outcome r.answer) (outcome r.answer')
 
 -- ---- DEMAND 3
 
@@ -250,13 +251,13 @@ pub record ComputedQueries : Type 0 where
   pub before' : QueryLists
   pub after : QueryLists
   pub after' : QueryLists
-  pub answer : QueryAnswer
-  pub answer' : QueryAnswer
+  pub answer : Result QueryCounts Refusal
+  pub answer' : Result QueryCounts Refusal
   pub promise : QueryPromise query before answer after
   pub promise' : QueryPromise (renumbered_query query order) before' answer' after'
   pub lengths : SameLengths before before'
   pub counts : QueryCounts
-  pub passed : query_outcome answer ≡ accepted counts
+  pub passed : outcome answer ≡ accepted counts
   pub no_nan : (p : ℕ) → p < pair_count query.points → NoNan query.mesh query.iterations (pair_at query.points p)
 
 -- DEMAND 3 again: whatever the permutations, of the lists that they give

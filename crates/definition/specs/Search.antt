@@ -6,6 +6,9 @@ use Rattle.definition.specs.Root.{root_of}
 use Rattle.definition.specs.Elements.{face_reference_of}
 use Rattle.definition.specs.Mapping.{face_tangent, point_at, jacobian_at}
 use Rattle.definition.specs.declared.Point.{Point}
+use Rattle.definition.specs.declared.Step.{Step}
+use Rattle.definition.specs.declared.Step.TheVariants.{Stay, Last, More}
+use Rattle.definition.specs.declared.Best.{Best}
 use Rattle.definition.specs.declared.Reference.{Reference}
 use Rattle.definition.specs.declared.JacobianMatrix.{JacobianMatrix}
 use Rattle.definition.specs.declared.GatheredElement.{GatheredElement}
@@ -14,28 +17,17 @@ use Rattle.definition.specs.declared.FaceProjection.{FaceProjection}
 
 -- ---- one search, from a first best and seeds
 
--- what a step comes to: none is made, or it is the last one, or more may follow
-pub data Step (A : Type 0) : Type 0 where
-  stay : Step A
-  last : A → Step A
-  more : A → Step A
-
 -- at most k steps from a, the first of which is s
 unfoldable pub stepped : {A : Type 0} → (A → Step A) → ℕ → Step A → A → A
 stepped step zero s a = a
-stepped step (suc k) stay a = a
-stepped step (suc k) (last b) a = b
-stepped step (suc k) (more b) a = stepped step k (step b) b
+stepped step (suc k) Stay a = a
+stepped step (suc k) (Last b) a = b
+stepped step (suc k) (More b) a = stepped step k (step b) b
 
 unfoldable pub walked : {A : Type 0} → (A → Step A) → ℕ → A → A
 walked step k a = stepped step k (step a) a
 
--- a place of the search, its physical point and the point's squared distance from the target
-pub record Best (A : Type 0) : Type 0 where
-  pub at : A
-  pub point : Point
-  pub square : Float
-
+-- a place of the search
 unfoldable pub placed : {A : Type 0} → (A → Point) → Point → A → Best A
 placed point_of target a =
     let p = point_of a in
@@ -86,14 +78,14 @@ next_reference j u v r =
 
 -- ".. or after a step whose squared length is at most 2^-104": the step is stored, and then the seed's steps end
 unfoldable pub ended_element : Reference → Reference → Step Reference
-ended_element r n = cond (le (squared_distance r.xi r.eta n.xi n.eta) short_square) (last n) (more n)
+ended_element r n = cond (le (squared_distance r.xi r.eta n.xi n.eta) short_square) (Last n) (More n)
 
 -- "A seed's steps end early when the magnitude of the determinant of J transposed times J is at most 2^-46 (no step is made)"
 unfoldable pub element_step : GatheredElement → Point → Reference → Step Reference
 element_step e t r =
     let p = point_at e r in
     let j = jacobian_at e r in
-    cond (le (magnitude (hessian_det j)) singular) stay (ended_element r (next_reference j (p.x ⊖ t.x) (p.y ⊖ t.y) r))
+    cond (le (magnitude (hessian_det j)) singular) Stay (ended_element r (next_reference j (p.x ⊖ t.x) (p.y ⊖ t.y) r))
 
 -- "First best: (0,0). Then nine seeds in the Rust's order": centre, corners, midsides
 abbrev pub reference : Float → Float → Reference
@@ -131,7 +123,7 @@ next_s t u v s = clamp_of (s ⊖ (t.x ⊗ u ⊕ t.y ⊗ v) ⊘ tangent_square t)
 
 -- ".. or after a step of at most 2^-52"
 unfoldable pub ended_face : Float → Float → Step Float
-ended_face s n = cond (le (magnitude (n ⊖ s)) epsilon) (last n) (more n)
+ended_face s n = cond (le (magnitude (n ⊖ s)) epsilon) (Last n) (More n)
 
 -- "Steps end when the squared tangent is at most 2^-52 (no step is made)"
 unfoldable pub face_step : GatheredElement → ℕ → Point → Float → Step Float
@@ -140,7 +132,7 @@ face_step e face t s =
     let r = reference f.xi f.eta in
     let p = point_at e r in
     let d = face_tangent (jacobian_at e r) f in
-    cond (le (tangent_square d) epsilon) stay (ended_face s (next_s d (p.x ⊖ t.x) (p.y ⊖ t.y) s))
+    cond (le (tangent_square d) epsilon) Stay (ended_face s (next_s d (p.x ⊖ t.x) (p.y ⊖ t.y) s))
 
 -- "First best: s = 0; seeds -1, 0, 1."
 unfoldable pub face_seeds : List Float

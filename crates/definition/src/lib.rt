@@ -1,5 +1,8 @@
-// The plain types that the crates share. There is no function here: specs/ is the written definition and proofs/ what holds it.
+// The plain types that the crates share. specs/ is the written definition and proofs/ what holds it; the one function here gives a question's number.
 #![tactic(auto)]
+
+ghost use Rattle.std.specs.Prelude.{◌≡◌};
+ghost use Rattle.definition.specs.Questions.{number_of};
 
 // A point of the plane of the mesh, (r, z) or (x, y), in the mesh's unit of length. The Rust's `[F; 2]`.
 #[derive(Clone, Copy)]
@@ -43,6 +46,7 @@ pub struct InverseJacobian {
 }
 
 // A gathered element: its number of nodes, 4 or 9, and their coordinates, two a node. The places past the nodes hold 0 and are not read.
+// Kept: a rule of the project, and fixed memory: the gathered element is a count beside an array of 18.
 #[derive(Clone, Copy)]
 pub struct GatheredElement {
     pub count: usize,
@@ -91,44 +95,76 @@ pub enum Structural2dFormulation {
     PlaneStrain { thickness: f64 },
 }
 
-// What some of a call's questions come to: all are answered yes; or the first that is answered no, and its place.
+// What a step of a search comes to: none is made, or it is the last one, or more may follow.
 #[derive(Clone, Copy)]
-pub enum Verdict {
-    Passed,
-    Refused { question: u8, place: usize },
+pub enum Step<A> {
+    Stay,
+    Last(A),
+    More(A),
 }
 
-// What a query answers: how many points it answered, how many elements repeat a node and how many points lie inside; or the question that was answered no, and its place.
+// A place of a search, its physical point and the point's squared distance from the target.
 #[derive(Clone, Copy)]
-pub enum QueryAnswer {
-    Accepted {
-        points: usize,
-        repeated: usize,
-        inside: usize,
-    },
-    Refused {
-        question: u8,
-        place: usize,
-    },
+pub struct Best<A> {
+    pub at: A,
+    pub point: Point,
+    pub square: f64,
 }
 
-// What an operator answers: its numbers of rows, columns and triplets; or the question that was answered no, and its place.
-#[derive(Clone, Copy)]
-pub enum OperatorAnswer {
-    Built {
-        rows: usize,
-        columns: usize,
-        triplets: usize,
-    },
-    Refused {
-        question: u8,
-        place: usize,
-    },
+// The questions that a call asks, by what has to hold.
+#[derive(Clone, Copy, Debug, PartialEq, Eq)]
+pub enum QuestionKind {
+    FamilyKnown = 1,
+    NodesWhole = 2,
+    ElementsWhole = 3,
+    IterationsFew = 4,
+    PointsWhole = 5,
+    MaterialsWhole = 6,
+    Room = 7,
+    NodeNumbers = 8,
+    SomeNode = 9,
+    SomeElement = 10,
+    NumbersMatch = 11,
+    MaterialsMatch = 12,
+    PairsMatch = 13,
+    ElementKnown = 14,
+    MaterialKnown = 15,
+    NotInverted = 16,
+    OffAxis = 17,
+    MarkKnown = 18,
+    HeadFirst = 19,
+    BodyWhole = 20,
+    WithinLimits = 21,
 }
 
-// What the call from a job's bytes to its listing answers: how many bytes the listing has; or question 7, where the output is too short for the longest one.
+impl QuestionKind {
+    // The number that a refusal is known by outside.
+    pub fn number(self) -> u8
+        ensures { result ≡ number_of self }
+    {
+        self as u8
+    }
+}
+
+// The first question that was answered no, and its place.
+#[derive(Clone, Copy, Debug, PartialEq, Eq)]
+pub struct Refusal {
+    pub question: QuestionKind,
+    pub place: usize,
+}
+
+// The numbers of an accepted query: how many points it answered, how many elements repeat a node and how many points lie inside.
 #[derive(Clone, Copy)]
-pub enum JobAnswer {
-    Listed { bytes: usize },
-    Refused { question: u8, place: usize },
+pub struct QueryCounts {
+    pub points: usize,
+    pub repeated: usize,
+    pub inside: usize,
+}
+
+// The numbers of an accepted operator: its rows, its columns and its triplets.
+#[derive(Clone, Copy)]
+pub struct OperatorCounts {
+    pub rows: usize,
+    pub columns: usize,
+    pub triplets: usize,
 }

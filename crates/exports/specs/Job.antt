@@ -1,4 +1,4 @@
--- What the exported job promises: `JobPromise`, with numbers in place of the enum.
+-- What the exported job promises: `JobPromise`, with numbers in place of the `Result`.
 use Rattle.std.specs.Prelude.{List, ℕ}
 use Rattle.definition.specs.Job.{job_answered, listing_over}
 use Rattle.numbers.specs.Exported.{Exported}

@@ -1,4 +1,4 @@
--- What the exported query promises: `QueryPromise`, with numbers in place of the enum.
+-- What the exported query promises: `QueryPromise`, with numbers in place of the `Result`.
 use Rattle.definition.specs.Query.{QueryCall, QueryLists, queried, query_lists}
 use Rattle.numbers.specs.Exported.{Exported}
 use Rattle.numbers.specs.Numbers.{query_numbers}

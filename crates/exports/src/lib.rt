@@ -6,9 +6,13 @@ ghost use Rattle.query.specs.Query.{call, lists};
 ghost use Rattle.exports.specs.Query.{QueryExported};
 ghost use Rattle.exports.specs.Job.{JobExported};
 
+use answers::QueryLists;
+use calls::QueryCall;
+use mesh::QuadMesh;
 use numbers::{JobNumbers, QueryNumbers};
 
 // `query_quad_mesh`: the nearest node, element and face of each point, in twelve lent lists.
+// Kept: the C interface has each list, and each number, as a parameter of its own.
 pub fn sobrizenta_query_quad_mesh<'a>(
     family: usize,
     max_iterations: usize,
@@ -34,12 +38,9 @@ pub fn sobrizenta_query_quad_mesh<'a>(
         result
         (lists nearest_node_indices.new nearest_node_points.new nearest_node_distances.new nearest_element_indices.new nearest_element_reference_points.new nearest_element_points.new nearest_element_distances.new nearest_face_element_indices.new nearest_face_local_faces.new nearest_face_reference_coordinates.new nearest_face_points.new nearest_face_distances.new) }
 {
-    let answer = query::query_quad_mesh(
-        family,
-        max_iterations,
-        nodes_rz,
-        elements,
-        points,
+    let mesh = QuadMesh::new(family, nodes_rz, elements);
+    let call = QueryCall::new(mesh, max_iterations, points);
+    let mut lent = QueryLists {
         nearest_node_indices,
         nearest_node_points,
         nearest_node_distances,
@@ -52,14 +53,13 @@ pub fn sobrizenta_query_quad_mesh<'a>(
         nearest_face_reference_coordinates,
         nearest_face_points,
         nearest_face_distances,
-    );
-    numbers::query_numbers(answer)
+    };
+    query::query_quad_mesh(&call, &mut lent).into()
 }
 
 // `answer_job`: from a job's bytes to its listing's bytes, in a lent output of at least 30,738 bytes.
 pub fn sobrizenta_answer_job(job: &[u8], listing: &mut [u8]) -> JobNumbers
     ensures { JobExported job.now listing.old result listing.new }
 {
-    let answer = job::answer_job(job, listing);
-    numbers::job_numbers(answer)
+    job::answer_job(job, listing).into()
 }

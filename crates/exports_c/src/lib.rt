@@ -10,6 +10,7 @@ ghost use Rattle.exports.specs.Job.{JobExported};
 use numbers::{JobNumbers, QueryNumbers};
 
 // `query_quad_mesh`: the nearest node, element and face of each point, in twelve lent lists.
+// Kept: the C interface has each list, and each number, as a parameter of its own.
 #[unsafe(no_mangle)]
 pub extern "C" fn sobrizenta_query_quad_mesh<'a>(
     family: usize,

@@ -1,20 +1,15 @@
 -- What a query's promise says of its listing: each answer is read back from the places to which it was written. Assumes nothing.
-use mathlib.Core.Path.{◌≡◌, refl, sym, ap, ◌∙◌}
-use mathlib.Core.List.{List, [], ◌∷◌, ◌++◌}
-use Prim.Native.Nat.{ℕ, ◌+◌, ◌*◌, ◌≤◌, ◌<◌}
-use native.Mathlib.Decide.{dec_lt}
-use native.Mathlib.Omega.{arith}
-use borrow.Author.Tests.{lt-ltb}
+use Rattle.std.proofs.Common.{◌≡◌, refl, sym, ap, ◌∙◌, Result, Ok, Err, List, [], ◌∷◌, ◌++◌, ℕ, ◌+◌, ◌*◌, ◌≤◌, ◌<◌, length, get_or, arith}
 use lib.Ieee.{nan}
-use lib.ListN.{length, get_or}
 use Rattle.definition.specs.Lists.{each, over}
-use Rattle.definition.specs.Query.{QueryCall, QueryLists, QueryCounts, answer_at, query_questions, queried, values, answers_over, QueryPromise}
-use Rattle.definition.specs.Job.{counts_line, point_line, query_listing}
-use Rattle.definition.specs.declared.QueryAnswer.{QueryAnswer}
-use Rattle.definition.specs.declared.QueryAnswer.TheVariants.{Accepted, Refused}
-use Rattle.definition.proofs.Lists.{each_same, values_length, values_at, pairs_length, pairs_first, pairs_second, over_at}
+use Rattle.definition.specs.Query.{QueryCall, QueryLists, answer_at, query_questions, queried, values, answers_over, QueryPromise}
+use Rattle.definition.specs.Job.{counts_line, point_line, own_lists, query_listing}
+use Rattle.definition.specs.declared.QueryCounts.{QueryCounts}
+use Rattle.definition.specs.declared.Refusal.{Refusal}
+use Rattle.definition.proofs.Lists.{each_same, values_length, values_at, pairs_length, pairs_first, pairs_second, over_at, over_length}
 use Rattle.definition.proofs.Passing.{asked_accepted}
-use Rattle.listing.specs.Page.{Page, typed}
+use Rattle.listing.specs.Page.{Puts}
+use Rattle.listing.specs.declared.Page.{Page}
 use Rattle.listing.specs.Answers.{answer_in, listed_of, answer_listing}
 
 -- ---- one place of a list with the answers over it
@@ -52,22 +47,28 @@ answers_read q lent {n} {p} l =
 
 -- ---- the promise
 
-listed_all : {n : ℕ} → n ≤ 256 → listed_of n ≡ n
-listed_all {n} h =
-    elim (dec_lt n 256) [
-      | yes l ↦ rw (lt-ltb n 256 l) refl
-      | no l ↦ let e : n ≡ 256 = omega arith in rw e refl
-    ]
+-- the points that have places are all listed
+listed_all : (q : QueryCall) (lent : QueryLists) {n : ℕ} → n ≤ length lent.node_indices → listed_of n (answers_over q n lent) ≡ n
+unfolding answers_over
+listed_all q lent {n} h =
+    let v : ℕ → ℕ = λ p. (answer_at q p).node.node_index in
+    let size : length (over (values v n) lent.node_indices) ≡ length lent.node_indices = over_length (values v n) lent.node_indices (rw (values_length v n) h) in
+    omega arith
+
+-- the program's own lists have 256 places
+pub own_room : length own_lists.node_indices ≡ 256
+unfolding own_lists
+own_room = refl
 
 -- the points of a query of at most 512 coordinates all have places
-same_listing : (q : QueryCall) (lent : QueryLists) (answer : QueryAnswer) {after : QueryLists} → length q.points ≤ 512 → QueryPromise q lent answer after → query_listing q (queried q lent) ≡ answer_listing answer after
+same_listing : (q : QueryCall) (lent : QueryLists) (answer : Result QueryCounts Refusal) {after : QueryLists} → length q.points ≤ 512 → length lent.node_indices ≡ 256 → QueryPromise q lent answer after → query_listing q (queried q lent) ≡ answer_listing answer after
 unfolding queried
-same_listing q lent (Accepted points repeated inside) few h =
-    let counts = (asked_accepted (query_questions q lent) (sym h.answers)).1 in
-    let n = ap (λ (c : QueryCounts). c.points) counts in
+same_listing q lent (Ok counts) few room h =
+    let same = (asked_accepted (query_questions q lent) (sym h.answers)).1 in
+    let n = ap (λ (c : QueryCounts). c.points) same in
     let lists = rw (← h.answers) at h.leaves in
-    rw (← h.answers, lists, listed_all {n = points} (omega (arith, n))) (ap (λ l. counts_line (record { points = points; repeated = repeated; inside = inside }) ++ l) (each_same (λ p l. ap (point_line p) (sym (answers_read q lent l)))))
-same_listing q lent (Refused question place) few h = rw (← h.answers) refl
+    rw (← h.answers, lists, listed_all q lent {n = counts.points} (omega (arith, n))) (ap (λ l. counts_line counts ++ l) (each_same (λ p l. ap (point_line p) (sym (answers_read q lent l)))))
+same_listing q lent (Err refusal) few room h = rw (← h.answers) refl
 
-pub promised_listing : (q : QueryCall) (lent : QueryLists) (answer : QueryAnswer) {after : QueryLists} (p : Page) {r : Page} → length q.points ≤ 512 → QueryPromise q lent answer after → r ≡ typed p (answer_listing answer after) → r ≡ typed p (query_listing q (queried q lent))
-promised_listing q lent answer p few h e = e ∙ ap (typed p) (sym (same_listing q lent answer few h))
+pub promised_listing : (q : QueryCall) (lent : QueryLists) (answer : Result QueryCounts Refusal) {after : QueryLists} {p r : Page} → length q.points ≤ 512 → length lent.node_indices ≡ 256 → QueryPromise q lent answer after → Puts p r (answer_listing answer after) → Puts p r (query_listing q (queried q lent))
+promised_listing q lent answer few room h puts = rw (same_listing q lent answer few room h) puts

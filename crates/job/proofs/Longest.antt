@@ -15,7 +15,8 @@ use Rattle.definition.specs.Search.{closest_reference_point, closest_face_point}
 use Rattle.definition.specs.Mesh.{Mesh, pair_count, node_count, element_count, repeated_count}
 use Rattle.definition.specs.Choice.{pick, point_answer}
 use Rattle.definition.specs.Questions.{Question, Outcome, ask, accepted, refused, asked, node_numbers}
-use Rattle.definition.specs.Query.{QueryCall, QueryLists, QueryCounts, query_questions, answer_at, inside_count, queried}
+use Rattle.definition.specs.declared.QueryCounts.{QueryCounts}
+use Rattle.definition.specs.Query.{QueryCall, QueryLists, query_questions, answer_at, inside_count, queried}
 use Rattle.definition.specs.Job.{Job, within_limits, read_job, query_of, own_lists, refusal_line, point_line, query_listing, job_listing, listing, longest_listing}
 use Rattle.definition.proofs.Lists.{map_each, every_of, and_parts}
 use Rattle.definition.proofs.Passing.{passes, passes_append, passes_each}

@@ -1,27 +1,28 @@
 -- The call keeps its promise: an output that is too short stays as it was, and one that holds the longest listing holds this one. Assumes nothing.
-use mathlib.Core.Path.{◌≡◌, refl, sym, ap, ◌∙◌}
-use mathlib.Core.List.{List, [], ◌∷◌}
-use Prim.Native.Nat.{ℕ, ◌≤◌, ◌<◌}
-use native.Mathlib.Omega.{arith}
-use borrow.Author.Tests.{le-leb, lt-leb}
-use lib.Dec.{leb}
-use lib.ListN.{length, length-append}
+use Rattle.std.proofs.Common.{◌≡◌, refl, sym, ap, ◌∙◌, true, Ok, Err, List, [], ◌∷◌, ℕ, ◌≤◌, leb, length, length-append, arith}
+use borrow.Author.Tests.{le-leb, leb-true}
 use Rattle.definition.specs.Lists.{over}
-use Rattle.definition.specs.Questions.{ask, accepted, refused, asked}
+use Rattle.definition.specs.Questions.{ask, accepted, refused, asked, number_of}
 use Rattle.definition.specs.Job.{listing, longest_listing, job_answered, JobPromise}
-use Rattle.definition.specs.declared.JobAnswer.TheVariants.{Listed, Refused}
-use Rattle.definition.proofs.Passing.{asked_accepted}
+use Rattle.definition.specs.declared.Refusal.{Refusal}
+use Rattle.definition.proofs.Lists.{and_parts}
+use Rattle.definition.proofs.Passing.{passes, asked_accepted, asked_value}
 use Rattle.listing.specs.Page.{Page, page, typed}
 use Rattle.listing.proofs.Pages.{typed_over}
 use Rattle.job.proofs.Longest.{listing_length}
 
-pub short_kept : (bytes lent : List ℕ) → length lent < longest_listing → JobPromise bytes lent (Refused 7 0) lent
-unfolding job_answered asked
-short_kept bytes lent h =
-    let is : job_answered bytes lent ≡ refused 7 0 = rw (lt-leb longest_listing (length lent) h) refl in
+-- a refusal that the one question gives
+pub refused_kept : (bytes lent : List ℕ) {r : Refusal} → refused (number_of r.question) r.place ≡ asked (ask 7 0 (leb longest_listing (length lent)) ∷ []) (tt {0}) → JobPromise bytes lent (Err r) lent
+unfolding job_answered
+refused_kept bytes lent {r} h =
+    let is : job_answered bytes lent ≡ refused (number_of r.question) r.place = asked_value (ask 7 0 (leb longest_listing (length lent)) ∷ []) (length (listing bytes)) ∙ rw (← h) in
     record { answers = sym is; leaves = rw is refl }
 
-pub listed_kept : (bytes lent : List ℕ) {after : List ℕ} {n : ℕ} → longest_listing ≤ length lent → page after n ≡ typed (page lent 0) (listing bytes) → JobPromise bytes lent (Listed n) after
+pub room_kept : (lent : List ℕ) → accepted tt ≡ asked (ask 7 0 (leb longest_listing (length lent)) ∷ []) (tt {0}) → longest_listing ≤ length lent
+unfolding passes
+room_kept lent h = leb-true _ _ (and_parts (leb longest_listing (length lent)) true (asked_accepted (ask 7 0 (leb longest_listing (length lent)) ∷ []) (sym h)).0).0
+
+pub listed_kept : (bytes lent : List ℕ) {after : List ℕ} {n : ℕ} → longest_listing ≤ length lent → page after n ≡ typed (page lent 0) (listing bytes) → JobPromise bytes lent (Ok n) after
 unfolding job_answered asked
 listed_kept bytes lent h e =
     let is : job_answered bytes lent ≡ accepted (length (listing bytes)) = rw (le-leb longest_listing (length lent) h) refl in
@@ -29,7 +30,7 @@ listed_kept bytes lent h e =
     record { answers = ap (λ (p : Page). accepted p.at) whole ∙ sym is; leaves = rw is (ap (λ (p : Page). p.bytes) whole) }
 
 -- a listing lies within its output
-pub listed_within : (bytes lent : List ℕ) {n : ℕ} {after : List ℕ} → JobPromise bytes lent (Listed n) after → n ≤ length after
+pub listed_within : (bytes lent : List ℕ) {n : ℕ} {after : List ℕ} → JobPromise bytes lent (Ok n) after → n ≤ length after
 unfolding job_answered over
 listed_within bytes lent {n} {after} h =
     let (_, size) = asked_accepted (ask 7 0 (leb longest_listing (length lent)) ∷ []) (sym h.answers) in

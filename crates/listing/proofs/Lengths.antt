@@ -10,19 +10,19 @@ use lib.ListN.{length, length-append}
 use lib.Ieee.{Float, binary64, is_nan, to_bits}
 use Rattle.definition.specs.Lists.{each}
 use Rattle.definition.specs.Job.{text, digits, decimal, hexadecimal, line, refusal_line, counts_line, point_line}
-use Rattle.definition.specs.Query.{QueryCounts}
+use Rattle.definition.specs.declared.QueryCounts.{QueryCounts}
 use Rattle.definition.specs.declared.PointAnswer.{PointAnswer}
 use Rattle.listing.proofs.Numbers.{decimal_one, decimal_more}
 
 pub decimal_length : (k : ℕ) {n : ℕ} → n < 10 ^ suc k → length (decimal n) ≤ suc k
-decimal_length zero h = rw (decimal_one h refl) (omega arith)
+decimal_length zero h = rw (decimal_one _ h) (omega arith)
 decimal_length (suc k) {n} h =
     elim (dec_lt n 10) [
-      | yes l ↦ rw (decimal_one l refl) (omega arith)
+      | yes l ↦ rw (decimal_one n l) (omega arith)
       | no l ↦
           let p : 10 ^ suc (suc k) ≡ 10 ^ suc k * 10 = pow-suc 10 (suc k) in
           let r : n / 10 < 10 ^ suc k = omega arith in
-          rw (decimal_more {n = n} (omega arith) refl, length-append) (omega (arith, decimal_length k r))
+          rw (decimal_more n (omega arith), length-append) (omega (arith, decimal_length k r))
     ]
 
 digits_length : (k n : ℕ) → length (digits 16 k n) ≡ k

@@ -1,16 +1,17 @@
--- A number's text by its last digit and the text before it, in decimal and in hexadecimal, and a float's by whether it differs from itself.
--- In decimal, more digits allowed than the number has change nothing. Assumes nothing.
-use mathlib.Core.Path.{◌≡◌, refl, sym, ◌∙◌}
-use mathlib.Core.Bool.{true, false}
-use mathlib.Core.List.{[], ◌∷◌, ◌++◌}
-use Prim.Native.Nat.{ℕ, zero, suc, ◌-◌, ◌/◌, ◌%◌, ◌≤◌, ◌<◌}
+-- A number's text by its last digit and the text before it in decimal, and by its last byte's two digits and the text before them in hexadecimal.
+-- In decimal, more digits allowed than the number has change nothing, so std's text of a number is the definition's. In hexadecimal, hex's text of a number's bytes is the definition's. Assumes nothing.
+use Rattle.std.proofs.Common.{◌≡◌, refl, List, [], ◌∷◌, ◌++◌, ℕ, zero, suc, ◌*◌, ◌/◌, ◌%◌, ◌^◌, ◌≤◌, ◌<◌, Bool, true, ◌&&◌, eqb, ap, ◌∙◌, inl, inr, slice_index, arith}
+use Rattle.std.proofs.Math.Nat.{pow-succ', div-div-eq-div-mul}
+use Rattle.std.proofs.lemmas.Bool.{and_parts, cases_lt, eqb-true}
+use lib.Seq.{append_snoc}
+use Rattle.std.specs.Int.{byte_at, bytes_high_first}
+use Rattle.hex.specs.Hex.{lower_digits, encode_with}
 use native.Mathlib.Nat.{not-suc-le-zero}
 use native.Mathlib.Decide.{dec_lt}
-use native.Mathlib.Omega.{arith}
-use lib.Ieee.{Float, nan, inf, fin, binary64, ne, is_nan, to_bits}
-use lib.Ieee.Compare.{differs_from_itself, nan_differs}
 use borrow.Author.Tests.{lt-ltb, le-ltb}
-use Rattle.definition.specs.Job.{text, glyph, digits, decimal_from, decimal, hexadecimal}
+use Rattle.std.specs.Fmt.{decimal as std_decimal}
+use Rattle.std.proofs.lemmas.Fmt.{decimal_by_steps}
+use Rattle.definition.specs.Job.{glyph, digits, decimal_from, decimal}
 
 -- ---- a number in decimal
 
@@ -31,37 +32,81 @@ from_same (suc j) (suc k) n h i =
       | no l ↦ rw (from_more j n (omega arith), from_more k n (omega arith), from_same j k (n / 10) (omega arith) (omega arith))
     ]
 
-pub decimal_one : {n last : ℕ} → n < 10 → last ≡ glyph (n % 10) → decimal n ≡ last ∷ []
+pub decimal_one : (n : ℕ) → n < 10 → decimal n ≡ glyph n ∷ []
 unfolding decimal
-decimal_one {n} h e = let m : n % 10 ≡ n = omega arith in rw (e, from_one n n h, m)
+decimal_one n h = from_one n n h
 
-pub decimal_more : {n last : ℕ} → 10 ≤ n → last ≡ glyph (n % 10) → decimal n ≡ decimal (n / 10) ++ last ∷ []
+pub decimal_more : (n : ℕ) → 10 ≤ n → decimal n ≡ decimal (n / 10) ++ glyph (n % 10) ∷ []
 unfolding decimal
-decimal_more {n} h e = rw (e, from_more n n h, from_same n (suc (n / 10)) (n / 10) (omega arith) (omega arith))
+decimal_more n h = rw (from_more n n h, from_same n (suc (n / 10)) (n / 10) (omega arith) (omega arith))
 
--- ---- a number by the last k of its hexadecimal digits
+-- std's text of a number
+pub decimal_text : (n : ℕ) → n < 2 ^ 64 → std_decimal n ≡ decimal n
+decimal_text n h =
+    decimal_by_steps (λ m text. text ≡ decimal m)
+    (λ m l. rw (decimal_one m l, lt-ltb m 10 l))
+    (λ m text l e. let r : m % 10 < 10 = omega arith in rw (decimal_more m l, e, lt-ltb (m % 10) 10 r))
+    n h
 
-pub digits_none : {k : ℕ} (n : ℕ) → k ≡ 0 → digits 16 k n ≡ []
+-- ---- a number by its bytes' hexadecimal digits
+
+-- the digits' table is the definition's, at its first n places
+abbrev same_glyphs : ℕ → Bool
+same_glyphs zero = true
+same_glyphs (suc n) = eqb (slice_index lower_digits n) (glyph n) && same_glyphs n
+
+glyph_at : (n d : ℕ) → same_glyphs n ≡ true → d < n → slice_index lower_digits d ≡ glyph d
+glyph_at zero d h l = absurd (not-suc-le-zero l)
+glyph_at (suc n) d h l =
+    let parts = and_parts (eqb (slice_index lower_digits n) (glyph n)) (same_glyphs n) h in
+    elim (cases_lt d n) [
+      | inl below ↦ glyph_at n d parts.1 below
+      | inr top ↦ let e : d ≡ n = omega arith in rw e (eqb-true (slice_index lower_digits n) (glyph n) parts.0)
+    ]
+
+-- hex's digit is the definition's
+lower_glyph : (d : ℕ) → d < 16 → slice_index lower_digits d ≡ glyph d
+lower_glyph d l = glyph_at 16 d refl l
+
+-- the last byte after those before it
+byte_next : (k n : ℕ) → byte_at (suc k) n ≡ byte_at k (n / 256)
+byte_next zero n = refl
+byte_next (suc k) n =
+    let wider : 256 ^ suc (suc k) ≡ 256 * 256 ^ suc k = pow-succ' 256 (suc k) in
+    rw (wider, div-div-eq-div-mul n 256 (256 ^ suc k)) refl
+
+bytes_last : (k n : ℕ) → bytes_high_first (suc k) n ≡ bytes_high_first k (n / 256) ++ n % 256 ∷ []
+bytes_last zero n = refl
+bytes_last (suc k) n = rw (byte_next k n, bytes_last k n) refl
+
+-- hex's text of two lists one after the other, and of one byte
+encode_append : (t xs ys : List ℕ) → encode_with t (xs ++ ys) ≡ encode_with t xs ++ encode_with t ys
+unfolding encode_with
+encode_append t [] ys = refl
+encode_append t (x ∷ xs) ys = rw (encode_append t xs ys) refl
+
+encode_one : (b : ℕ) → encode_with lower_digits (b ∷ []) ≡ slice_index lower_digits (b / 16) ∷ slice_index lower_digits (b % 16) ∷ []
+unfolding encode_with
+encode_one b = refl
+
+-- a byte's two digits after those before it
+digits_two : (k n : ℕ) → digits 16 (suc (suc k)) n ≡ digits 16 k (n / 256) ++ glyph (n / 16 % 16) ∷ glyph (n % 16) ∷ []
 unfolding digits
-digits_none n e = rw e
+digits_two k n =
+    let byte : n / 16 / 16 ≡ n / 256 = omega arith in
+    rw (byte, append_snoc) refl
 
-pub digits_more : {k last : ℕ} (n : ℕ) → (k ≡ 0 → ⊥) → last ≡ glyph (n % 16) → digits 16 k n ≡ digits 16 (k - 1) (n / 16) ++ last ∷ []
-unfolding digits
-digits_more {k = zero} n h e = absurd (h refl)
-digits_more {k = suc k} n h e = let m : suc k - 1 ≡ k = omega arith in rw (e, m)
-
--- ---- a float by its bits, or nan: only nan differs from itself
-
-pub not_nan : (x : Float) → ne x x ≡ false → is_nan x ≡ false
-unfolding is_nan
-not_nan nan e = sym nan_differs ∙ e
-not_nan (inf s) e = refl
-not_nan (fin s m k) e = refl
-
-pub hexadecimal_nan : (x : Float) → ne x x ≡ true → hexadecimal x ≡ text "nan"
-unfolding hexadecimal is_nan
-hexadecimal_nan x e = rw (differs_from_itself x (rw e tt))
-
-pub hexadecimal_bits : (x : Float) → ne x x ≡ false → hexadecimal x ≡ digits 16 16 (to_bits binary64 x)
-unfolding hexadecimal
-hexadecimal_bits x e = rw (not_nan x e)
+-- hex's text of the last k bytes of a number, the highest first, is its last 2 k digits
+pub bytes_text : (k n : ℕ) → encode_with lower_digits (bytes_high_first k n) ≡ digits 16 (2 * k) n
+unfolding digits encode_with
+bytes_text zero n = refl
+bytes_text (suc k) n =
+    let two : 2 * suc k ≡ suc (suc (2 * k)) = omega arith in
+    let high : n % 256 / 16 ≡ n / 16 % 16 = omega arith in
+    let low : n % 256 % 16 ≡ n % 16 = omega arith in
+    let h : n / 16 % 16 < 16 = omega arith in
+    let l : n % 16 < 16 = omega arith in
+    let byte : encode_with lower_digits (n % 256 ∷ []) ≡ glyph (n / 16 % 16) ∷ glyph (n % 16) ∷ [] = encode_one (n % 256) ∙ rw (high, low, lower_glyph (n / 16 % 16) h, lower_glyph (n % 16) l) refl in
+    ap (encode_with lower_digits) (bytes_last k n)
+    ∙ encode_append lower_digits (bytes_high_first k (n / 256)) (n % 256 ∷ [])
+    ∙ rw (two, digits_two (2 * k) n, ← bytes_text k (n / 256), byte) refl

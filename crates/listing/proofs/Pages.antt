@@ -1,42 +1,37 @@
 -- Texts put one after the other are one text, and a text that has room from place 0 on is written over the output: by induction on the text. Assumes nothing.
-use mathlib.Core.Path.{◌≡◌, refl, ap, ◌∙◌}
-use mathlib.Core.Bool.{true, false, cond}
+use mathlib.Core.Path.{◌≡◌, refl, ◌∙◌}
 use mathlib.Core.List.{List, [], ◌∷◌, ◌++◌, append-nil}
 use Prim.Native.Nat.{ℕ, ◌+◌, ◌≤◌, ◌<◌}
+use native.Mathlib.Numerals.{add-one}
 use native.Mathlib.Omega.{arith}
-use lib.Dec.{ltb}
-use lib.ListN.{length, set, length-append, length-set}
-use lib.Seq.{append_snoc}
+use lib.ListN.{length, get_or, take, length-append}
+use lib.Seq.{append_snoc, take-suc}
 use borrow.Author.Tests.{lt-ltb}
 use Rattle.definition.specs.Lists.{each, over}
 use Rattle.definition.proofs.Lists.{each_more, over_length, over_next}
-use Rattle.listing.specs.Page.{Page, page, stored, typed}
+use Rattle.listing.specs.Page.{Page, page, stored, typed, held, Puts}
+use Rattle.listing.specs.declared.Page.{Page as LentPage}
 
 typed_append : (p : Page) (a b : List ℕ) → typed (typed p a) b ≡ typed p (a ++ b)
 unfolding typed
 typed_append p [] b = refl
 typed_append p (x ∷ a) b = typed_append (stored p x) a b
 
--- one text after another
-pub typed_on : (p : Page) (a b : List ℕ) {q r : Page} → q ≡ typed p a → r ≡ typed q b → r ≡ typed p (a ++ b)
-typed_on p a b e h = cc (typed_append p a b)
+-- no text, and one text after another
+pub puts_none : (p : LentPage) → Puts p p []
+unfolding typed
+puts_none p = record { same = refl; text = refl }
+
+pub puts_on : {p q r : LentPage} {a b : List ℕ} → Puts p q a → Puts q r b → Puts p r (a ++ b)
+puts_on {p} {q} {r} {a} {b} first second = record { same = second.same ∙ first.same; text = let e = first.text in let h = second.text in cc (typed_append (held p) a b) }
+
+-- one byte more of a text
+pub puts_next : {p q r : LentPage} (t : List ℕ) (i : ℕ) → i < length t → Puts p q (take i t) → Puts q r (get_or t i 0 ∷ []) → Puts p r (take (i + 1) t)
+puts_next t i l first second = rw (add-one, take-suc {A = ℕ} t i 0 l) (puts_on first second)
 
 -- one part more of a text of parts
-pub typed_each : (p : Page) (g : ℕ → List ℕ) (n : ℕ) {q r : Page} → q ≡ typed p (each g n) → r ≡ typed q (g n) → r ≡ typed p (each g (n + 1))
-typed_each p g n e h = rw each_more (typed_on p (each g n) (g n) e h)
-
--- the output keeps its length
-stored_length : (p : Page) (b : ℕ) → length (stored p b).bytes ≡ length p.bytes
-unfolding stored
-stored_length p b = elim (ltb p.at (length p.bytes)) as (λ s. length (cond s (page (set p.bytes p.at b) (p.at + 1)) p).bytes ≡ length p.bytes) [ true ↦ length-set p.bytes p.at b | false ↦ refl ]
-
-typed_length : (p : Page) (t : List ℕ) → length (typed p t).bytes ≡ length p.bytes
-unfolding typed
-typed_length p [] = refl
-typed_length p (b ∷ t) = typed_length (stored p b) t ∙ stored_length p b
-
-pub typed_keeps : (p : Page) (t : List ℕ) {q : Page} → q ≡ typed p t → length q.bytes ≡ length p.bytes
-typed_keeps p t e = ap (λ x. length x.bytes) e ∙ typed_length p t
+pub puts_each : {p q r : LentPage} (g : ℕ → List ℕ) (n : ℕ) → Puts p q (each g n) → Puts q r (g n) → Puts p r (each g (n + 1))
+puts_each g n first second = rw each_more (puts_on first second)
 
 -- ---- a text that has room
 

@@ -1,44 +1,41 @@
 -- A query's answer and its twelve lists, as they are listed: each point's answer is read back from its places.
-use Rattle.std.specs.Prelude.{cond, List, ◌++◌, ℕ, ltb, get_or, Float}
+use Rattle.std.specs.Prelude.{Result, Ok, Err, List, ◌++◌, ℕ, min, length, get_or}
 use Rattle.std.specs.Float.{nan}
 use Rattle.definition.specs.Lists.{each}
 use Rattle.definition.specs.Mapping.{first, second}
 use Rattle.definition.specs.Mesh.{pair_at}
 use Rattle.definition.specs.Query.{QueryLists}
+use Rattle.definition.specs.Questions.{number_of}
 use Rattle.definition.specs.Job.{refusal_line, counts_line, point_line}
-use Rattle.definition.specs.declared.NodeProjection.{NodeProjection}
-use Rattle.definition.specs.declared.ElementProjection.{ElementProjection}
-use Rattle.definition.specs.declared.FaceProjection.{FaceProjection}
 use Rattle.definition.specs.declared.PointAnswer.{PointAnswer}
-use Rattle.definition.specs.declared.QueryAnswer.{QueryAnswer}
-use Rattle.definition.specs.declared.QueryAnswer.TheVariants.{Accepted, Refused}
-
--- the node, the element and the face of point p in their lists
-abbrev pub node_in : List ℕ → List Float → List Float → ℕ → NodeProjection
-node_in indices points distances p = record { node_index = get_or indices p 0; point = pair_at points p; distance = get_or distances p nan }
-
-abbrev pub element_in : List ℕ → List Float → List Float → List Float → ℕ → ElementProjection
-element_in indices references points distances p =
-    record { element_index = get_or indices p 0; reference = record { xi = first references p; eta = second references p }; point = pair_at points p; distance = get_or distances p nan }
-
-abbrev pub face_in : List ℕ → List ℕ → List Float → List Float → List Float → ℕ → FaceProjection
-face_in indices faces coordinates points distances p =
-    record { element_index = get_or indices p 0; local_face = get_or faces p 0; s = get_or coordinates p nan; point = pair_at points p; distance = get_or distances p nan }
+use Rattle.definition.specs.declared.QueryCounts.{QueryCounts}
+use Rattle.definition.specs.declared.Refusal.{Refusal}
 
 -- the answer of point p in the lists
 abbrev pub answer_in : QueryLists → ℕ → PointAnswer
 answer_in l p =
     record {
-      node = node_in l.node_indices l.node_points l.node_distances p;
-      element = element_in l.element_indices l.element_references l.element_points l.element_distances p;
-      face = face_in l.face_element_indices l.face_local_faces l.face_coordinates l.face_points l.face_distances p;
+      node = record { node_index = get_or l.node_indices p 0; point = pair_at l.node_points p; distance = get_or l.node_distances p nan };
+      element = record {
+        element_index = get_or l.element_indices p 0;
+        reference = record { xi = first l.element_references p; eta = second l.element_references p };
+        point = pair_at l.element_points p;
+        distance = get_or l.element_distances p nan;
+      };
+      face = record {
+        element_index = get_or l.face_element_indices p 0;
+        local_face = get_or l.face_local_faces p 0;
+        s = get_or l.face_coordinates p nan;
+        point = pair_at l.face_points p;
+        distance = get_or l.face_distances p nan;
+      };
     }
 
--- of so many points, those that lists of 256 places have an answer of
-abbrev pub listed_of : ℕ → ℕ
-listed_of points = cond (ltb points 256) points 256
+-- of so many points, those that the lists have a place for
+abbrev pub listed_of : ℕ → QueryLists → ℕ
+listed_of points l = min points (length l.node_indices)
 
 -- the listing of an answer with its lists
-abbrev pub answer_listing : QueryAnswer → QueryLists → List ℕ
-answer_listing (Accepted points repeated inside) l = counts_line (record { points = points; repeated = repeated; inside = inside }) ++ each (λ p. point_line p (answer_in l p)) (listed_of points)
-answer_listing (Refused question place) l = refusal_line question place
+abbrev pub answer_listing : Result QueryCounts Refusal → QueryLists → List ℕ
+answer_listing (Ok counts) l = counts_line counts ++ each (λ p. point_line p (answer_in l p)) (listed_of counts.points l)
+answer_listing (Err refusal) l = refusal_line (number_of refusal.question) refusal.place

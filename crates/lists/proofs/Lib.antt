@@ -1,3 +1,2 @@
 -- Laws that the proofs share, and that other crates may cite.
 pub mod Parts
-pub mod Dividing

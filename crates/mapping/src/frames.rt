@@ -1,20 +1,32 @@
 // An element at a reference, as the searches and the questions on a point ask for it: its point, and its frame, which is the point together with the Jacobian. It knows the shape numbers and the map, and nothing of a mesh.
-// A whole arm for each family, from N to the sums, is straight code; (xi, eta) goes below as two numbers, which the compiler keeps in registers.
+// At one family the work is straight code, from N to the sums: the family is a type, and what asks for an element of either writes both out.
 
 ghost use Rattle.std.specs.Prelude.{◌≡◌};
 ghost use Rattle.definition.specs.Mapping.{point_at, jacobian_at};
-ghost use Rattle.mapping.specs.Element.{element};
 
-use definition::{JacobianMatrix, Point, Reference};
+use definition::{GatheredElement, JacobianMatrix, Point, Reference};
+use elements::{Family, Quad4, Quad9};
 
-// `point_at`, with the number 4 written out for family 4: so it is short enough for the compiler to inline.
-pub fn point_of(count: usize, xy: &[f64; 18], r: Reference) -> Point
-    ensures { result ≡ point_at (element count xy.now) r }
+// The point at a reference of the element of family F that has these coordinates.
+#[inline(always)]
+#[tactic(auto, unfolding(definition::specs::Mapping::point_at))]
+fn point_of<F: Family>(xy: &[f64; 18], r: Reference) -> Point
+    ensures { result ≡ point_at (record { count = F.number; xy = xy.now }) r }
 {
-    if count == 4 {
-        crate::point_at(4, xy, r)
+    crate::point_sum::<F>(xy, &F::shape(r))
+}
+
+// The point of an element at a reference.
+// Kept: a choice on the family, which a gathered element has as a number. One function for this one and its three likes would need a trait for what is done at a family, and is no plainer.
+#[inline(always)]
+#[tactic(auto, unfolding(definition::specs::Mapping::point_at, definition::specs::Elements::shape_of, definition::specs::Elements::nodes_of))]
+pub fn point_at(e: &GatheredElement, r: Reference) -> Point
+    ensures { result ≡ point_at e.now r }
+{
+    if e.count == 9 {
+        point_of::<Quad9>(&e.xy, r)
     } else {
-        crate::point_at(count, xy, r)
+        point_of::<Quad4>(&e.xy, r)
     }
 }
 
@@ -25,41 +37,33 @@ pub struct Frame {
     pub jacobian: JacobianMatrix,
 }
 
-// The frame of family 4 alone. N and the gradients are made side by side: the compiler then makes the polynomials that both have but once.
-pub fn frame4(coords: &[f64; 18], xi: f64, eta: f64) -> Frame
-    ensures point_value { result.point ≡ point_at (element 4 coords.now) (record { xi = xi; eta = eta }) }
-    ensures jacobian_value { result.jacobian ≡ jacobian_at (element 4 coords.now) (record { xi = xi; eta = eta }) }
+// The frame at a reference of the element of family F that has these coordinates. `F::shape` is called here, and not `point_of`: then the compiler
+// makes the polynomials that N and its gradients share once.
+#[inline(always)]
+#[tactic(auto, unfolding(definition::specs::Mapping::point_at, definition::specs::Mapping::jacobian_at))]
+pub fn frame_of<F: Family>(xy: &[f64; 18], r: Reference) -> Frame
+    ensures point_value { result.point ≡ point_at (record { count = F.number; xy = xy.now }) r }
+    ensures jacobian_value { result.jacobian ≡ jacobian_at (record { count = F.number; xy = xy.now }) r }
 {
-    let n = elements::shape(4, xi, eta);
-    let grad = elements::grad_ref(4, xi, eta);
+    let n = F::shape(r);
+    let grad = F::grad_ref(r);
     Frame {
-        point: crate::map_point(4, coords, &n),
-        jacobian: crate::jacobian(4, coords, &grad),
-    }
-}
-
-// The frame of family 9 alone.
-pub fn frame9(coords: &[f64; 18], xi: f64, eta: f64) -> Frame
-    ensures point_value { result.point ≡ point_at (element 9 coords.now) (record { xi = xi; eta = eta }) }
-    ensures jacobian_value { result.jacobian ≡ jacobian_at (element 9 coords.now) (record { xi = xi; eta = eta }) }
-{
-    let n = elements::shape(9, xi, eta);
-    let grad = elements::grad_ref(9, xi, eta);
-    Frame {
-        point: crate::map_point(9, coords, &n),
-        jacobian: crate::jacobian(9, coords, &grad),
+        point: crate::point_sum::<F>(xy, &n),
+        jacobian: crate::jacobian_sum::<F>(xy, &grad),
     }
 }
 
 // The frame of an element at a reference.
-pub fn frame_at(family: usize, coords: &[f64; 18], reference: Reference) -> Frame
-    ensures point_value { result.point ≡ point_at (element family coords.now) reference }
-    ensures jacobian_value { result.jacobian ≡ jacobian_at (element family coords.now) reference }
+// Kept: a choice on the family, which a gathered element has as a number. One function for this one and its three likes would need a trait for what is done at a family, and is no plainer.
+#[inline(always)]
+#[tactic(auto, unfolding(definition::specs::Mapping::point_at, definition::specs::Mapping::jacobian_at, definition::specs::Elements::shape_of, definition::specs::Elements::grad_ref_of, definition::specs::Elements::nodes_of))]
+pub fn frame_at(e: &GatheredElement, r: Reference) -> Frame
+    ensures point_value { result.point ≡ point_at e.now r }
+    ensures jacobian_value { result.jacobian ≡ jacobian_at e.now r }
 {
-    let Reference { xi, eta } = reference;
-    if family == 9 {
-        frame9(coords, xi, eta)
+    if e.count == 9 {
+        frame_of::<Quad9>(&e.xy, r)
     } else {
-        frame4(coords, xi, eta)
+        frame_of::<Quad4>(&e.xy, r)
     }
 }

@@ -7,10 +7,10 @@ ghost use Rattle.definition.specs.Mapping.{grad_phys};
 use definition::InverseJacobian;
 
 // The gradients by x, then by y, node after node, from those by xi and eta. The places past the family's nodes hold 0.
+#[tactic(auto, unfolding(std::specs::Prelude::from_bits, definition::specs::Mapping::grad_phys, definition::specs::Lists::each, definition::specs::Lists::over))]
 pub fn grad_phys(family: usize, grad_reference: &[f64; 18], inv_jac: InverseJacobian) -> [f64; 18]
     ensures { result ≡ grad_phys family grad_reference.now inv_jac }
 {
-    let count = elements::nodes_per_element(family);
     let InverseJacobian {
         xix,
         xiy,
@@ -18,14 +18,12 @@ pub fn grad_phys(family: usize, grad_reference: &[f64; 18], inv_jac: InverseJaco
         etay,
     } = inv_jac;
     let mut out = [0.0; 18];
-    let mut i: usize = 0;
-    while i < count {
+    for i in 0..elements::nodes_per_element(family) {
         let k = 2 * i;
         let dxi = grad_reference[k];
         let deta = grad_reference[k + 1];
         out[k] = xix * dxi + etax * deta;
         out[k + 1] = xiy * dxi + etay * deta;
-        i += 1;
     }
     out
 }

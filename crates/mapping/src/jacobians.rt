@@ -7,6 +7,7 @@ ghost use Rattle.definition.specs.Mapping.{det_j, inv_j, face_tangent};
 use definition::{FaceReference, InverseJacobian, JacobianMatrix, Point};
 
 // The area of the plane that a unit of the reference square becomes, negative where the corners run clockwise.
+#[tactic(auto, unfolding(definition::specs::Mapping::det_j))]
 pub fn det_j(jac: JacobianMatrix) -> f64
     ensures { result ≡ det_j jac }
 {
@@ -14,6 +15,7 @@ pub fn det_j(jac: JacobianMatrix) -> f64
 }
 
 // The inverse, whatever the determinant: that it is above 0 is a question of the call that asks for the inverse.
+#[tactic(auto, unfolding(std::specs::Prelude::from_bits, definition::specs::Mapping::inv_j))]
 pub fn inv_j(jac: JacobianMatrix) -> InverseJacobian
     ensures { result ≡ inv_j jac }
 {
@@ -27,6 +29,7 @@ pub fn inv_j(jac: JacobianMatrix) -> InverseJacobian
 }
 
 // The direction of a face in the plane, by its coordinate s.
+#[tactic(auto, unfolding(definition::specs::Mapping::face_tangent))]
 pub fn face_tangent(jac: JacobianMatrix, f: FaceReference) -> Point
     ensures { result ≡ face_tangent jac f }
 {

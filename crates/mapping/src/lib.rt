@@ -1,5 +1,5 @@
 // The map from the reference square to the plane: points and Jacobians of one element, and what they give. The Rust's mapping.rs.
-// It knows an element by its family and by the coordinates of its nodes, and nothing of a mesh: no node numbers, no questions.
+// It knows a gathered element, its number of nodes and their coordinates, and nothing of a mesh: no node numbers, no questions.
 // Coordinates and gradients stand two a node; the places past the family's nodes are not read. Sums start at +0 and run in local node order.
 #![tactic(auto)]
 
@@ -7,54 +7,35 @@ mod frames;
 mod gradients;
 mod jacobians;
 
-ghost use Rattle.std.specs.Prelude.{◌≡◌, ◌≤◌, ◌<◌};
+ghost use Rattle.std.specs.Prelude.{◌≡◌};
 ghost use Rattle.definition.specs.Elements.{nodes_of};
-ghost use Rattle.definition.specs.Mapping.{first, second, map_point, jacobian_of, point_at};
-ghost use Rattle.mapping.specs.Element.{element};
+ghost use Rattle.definition.specs.Mapping.{map_point, jacobian_of};
 
-use definition::{JacobianMatrix, Point, Reference};
-pub use frames::{Frame, frame_at, frame4, frame9, point_of};
+use definition::{GatheredElement, JacobianMatrix, Point};
+use elements::{Family, Quad4, Quad9};
+pub use frames::{Frame, frame_at, frame_of, point_at};
 pub use gradients::grad_phys;
 pub use jacobians::{det_j, face_tangent, inv_j};
 
-// The two numbers of a node: x and y, or the gradients by xi and by eta.
-#[derive(Clone, Copy)]
-struct Pair {
-    first: f64,
-    second: f64,
-}
-
-fn pair_at(list: &[f64; 18], i: usize) -> Pair
-    requires { i < 9 }
-    ensures { result ≡ record { first = first list.now i; second = second list.now i } }
-{
-    Pair {
-        first: list[2 * i],
-        second: list[2 * i + 1],
-    }
-}
-
-// The part of the first `count` nodes in a point.
-fn point_sum(count: usize, coords: &[f64; 18], n: &[f64; 9]) -> Point
-    requires { count ≤ 9 }
-    ensures { result ≡ map_point coords.now n.now count }
+// The sum of N times x, and of N times y, over the nodes of one family: a number that the compiler knows, so the loop becomes straight code.
+#[inline(always)]
+#[tactic(auto, unfolding(std::specs::Prelude::from_bits, definition::specs::Mapping::map_point))]
+fn point_sum<F: Family>(xy: &[f64; 18], n: &[f64; 9]) -> Point
+    ensures { result ≡ map_point xy.now n.now (nodes_of F.number) }
 {
     let mut point = Point { x: 0.0, y: 0.0 };
-    let mut i: usize = 0;
-    while i < count {
-        let Pair { first, second } = pair_at(coords, i);
-        let ni = n[i];
-        point.x = point.x + ni * first;
-        point.y = point.y + ni * second;
-        i += 1;
+    for i in 0..F::NODES {
+        point.x = point.x + n[i] * xy[2 * i];
+        point.y = point.y + n[i] * xy[2 * i + 1];
     }
     point
 }
 
-// The part of the first `count` nodes in a Jacobian.
-fn jacobian_sum(count: usize, coords: &[f64; 18], grad: &[f64; 18]) -> JacobianMatrix
-    requires { count ≤ 9 }
-    ensures { result ≡ jacobian_of coords.now grad.now count }
+// The sum of each coordinate times each gradient, over the nodes of one family.
+#[inline(always)]
+#[tactic(auto, unfolding(std::specs::Prelude::from_bits, definition::specs::Mapping::jacobian_of))]
+fn jacobian_sum<F: Family>(xy: &[f64; 18], grad: &[f64; 18]) -> JacobianMatrix
+    ensures { result ≡ jacobian_of xy.now grad.now (nodes_of F.number) }
 {
     let mut jac = JacobianMatrix {
         xxi: 0.0,
@@ -62,72 +43,41 @@ fn jacobian_sum(count: usize, coords: &[f64; 18], grad: &[f64; 18]) -> JacobianM
         yxi: 0.0,
         yeta: 0.0,
     };
-    let mut i: usize = 0;
-    while i < count {
-        let Pair {
-            first: x,
-            second: y,
-        } = pair_at(coords, i);
-        let Pair {
-            first: dxi,
-            second: deta,
-        } = pair_at(grad, i);
+    for i in 0..F::NODES {
+        let x = xy[2 * i];
+        let y = xy[2 * i + 1];
+        let dxi = grad[2 * i];
+        let deta = grad[2 * i + 1];
         jac.xxi = jac.xxi + x * dxi;
         jac.xeta = jac.xeta + x * deta;
         jac.yxi = jac.yxi + y * dxi;
         jac.yeta = jac.yeta + y * deta;
-        i += 1;
     }
     jac
 }
 
-// The sum of N times x, and of N times y. Each family has an arm of its own, where the count is a number that the compiler knows: the loops become straight code.
-pub fn map_point(family: usize, coords: &[f64; 18], n: &[f64; 9]) -> Point
-    ensures { result ≡ map_point coords.now n.now (nodes_of family) }
+// The point of an element that the shape numbers `n` lead to.
+// Kept: a choice on the family, which a gathered element has as a number. One function for this one and its three likes would need a trait for what is done at a family, and is no plainer.
+#[tactic(auto, unfolding(definition::specs::Elements::nodes_of))]
+pub fn map_point(e: &GatheredElement, n: &[f64; 9]) -> Point
+    ensures { result ≡ map_point e.now.xy n.now (nodes_of e.now.count) }
 {
-    if family == 9 {
-        point_sum(9, coords, n)
+    if e.count == 9 {
+        point_sum::<Quad9>(&e.xy, n)
     } else {
-        point_sum(4, coords, n)
+        point_sum::<Quad4>(&e.xy, n)
     }
 }
 
-// The sum of each coordinate times each gradient.
-pub fn jacobian(family: usize, coords: &[f64; 18], grad: &[f64; 18]) -> JacobianMatrix
-    ensures { result ≡ jacobian_of coords.now grad.now (nodes_of family) }
+// The Jacobian of an element that the gradients `grad` lead to.
+// Kept: a choice on the family, which a gathered element has as a number. One function for this one and its three likes would need a trait for what is done at a family, and is no plainer.
+#[tactic(auto, unfolding(definition::specs::Elements::nodes_of))]
+pub fn jacobian(e: &GatheredElement, grad: &[f64; 18]) -> JacobianMatrix
+    ensures { result ≡ jacobian_of e.now.xy grad.now (nodes_of e.now.count) }
 {
-    if family == 9 {
-        jacobian_sum(9, coords, grad)
+    if e.count == 9 {
+        jacobian_sum::<Quad9>(&e.xy, grad)
     } else {
-        jacobian_sum(4, coords, grad)
-    }
-}
-
-// ---- at a reference
-// A whole arm for each family, from N to the sums, is straight code; (xi, eta) goes below as two numbers, which the compiler keeps in registers.
-
-fn point4(coords: &[f64; 18], xi: f64, eta: f64) -> Point
-    ensures { result ≡ point_at (element 4 coords.now) (record { xi = xi; eta = eta }) }
-{
-    let n = elements::shape(4, xi, eta);
-    point_sum(4, coords, &n)
-}
-
-fn point9(coords: &[f64; 18], xi: f64, eta: f64) -> Point
-    ensures { result ≡ point_at (element 9 coords.now) (record { xi = xi; eta = eta }) }
-{
-    let n = elements::shape(9, xi, eta);
-    point_sum(9, coords, &n)
-}
-
-// The point of an element at a reference.
-pub fn point_at(family: usize, coords: &[f64; 18], reference: Reference) -> Point
-    ensures { result ≡ point_at (element family coords.now) reference }
-{
-    let Reference { xi, eta } = reference;
-    if family == 9 {
-        point9(coords, xi, eta)
-    } else {
-        point4(coords, xi, eta)
+        jacobian_sum::<Quad4>(&e.xy, grad)
     }
 }

@@ -1,5 +1,5 @@
 -- A lent list written from a place on: what one value more is, and what comes of writing on where the last call ended. Assumes nothing.
-use mathlib.Core.Path.{◌≡◌, refl}
+use mathlib.Core.Path.{◌≡◌}
 use mathlib.Core.List.{List, [], ◌∷◌, ◌++◌, append_assoc, append-nil}
 use Prim.Native.Nat.{ℕ, ◌+◌, ◌*◌, ◌≤◌, ◌<◌}
 use native.Mathlib.Nat.{add_assoc}
@@ -65,8 +65,3 @@ pub part_next : {A : Type 0} (g : ℕ → List A) (k i : ℕ) {before after : Li
 part_next g k i old e p q =
     let size : length (each g i) ≡ k * i = each_length g (λ j l. e j) in
     rw (q, p, ← size, each_more) (over_from_over (each g i) (g i) old)
-
-pub four_parts : {A : Type 0} (g : ℕ → List A) (k : ℕ) {a b c d : List A} (old : List A) → ((j : ℕ) → length (g j) ≡ k) →
-    a ≡ over_from (k * 0) (g 0) old → b ≡ over_from (k * 1) (g 1) a → c ≡ over_from (k * 2) (g 2) b → d ≡ over_from (k * 3) (g 3) c → d ≡ over (each g 4) old
-unfolding each over
-four_parts g k old e p q r s = part_next g k 3 old e (part_next g k 2 old e (part_next g k 1 old e (part_next g k 0 old e refl p) q) r) s

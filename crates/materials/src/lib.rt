@@ -2,20 +2,27 @@
 // A material is sixteen numbers, four rows of four, for the components rr, zz, tt and rz (xx, yy, zz and xy). Every call has an answer for every list and every number.
 #![tactic(auto)]
 
+mod given;
+
 ghost use Rattle.std.specs.Prelude.{◌≡◌, ◌&&◌, ◌*◌, ◌≤◌, ◌<◌, length};
 ghost use Rattle.std.specs.Float.Ieee.{eq};
 ghost use Rattle.definition.specs.Binary64.{plus0, one};
 ghost use Rattle.definition.specs.Lists.{over};
 ghost use Rattle.definition.specs.Elements.{nodes_of};
 ghost use Rattle.definition.specs.Query.{values};
-ghost use Rattle.definition.specs.Rows.{four_terms, product_of, material_of, strain_to_local, stress_to_global, rotated, oriented_material};
+ghost use Rattle.definition.specs.Rows.{four_terms, product_of, strain_to_local, stress_to_global, rotated};
 ghost use Rattle.materials.specs.Products.{over_from, entry_of, times_of};
 ghost use Rattle.materials.specs.Sixteen.{sixteen};
+
+pub use given::Materials;
+use std::array;
 
 // ---- products of sixteen numbers
 // Each entry is four terms from +0, in the order of the columns. A matrix is whole by its type, so that every call has an answer.
 
 // Row i of a, times the four numbers.
+// Kept: a matrix and a row of it; a method on a struct around the array would read the same, and is no plainer.
+#[tactic(auto, unfolding(definition::specs::Rows::four_terms))]
 fn four_terms(a: &[f64; 16], i: usize, b0: f64, b1: f64, b2: f64, b3: f64) -> f64
     requires { i < 4 }
     ensures { result ≡ four_terms a.now i b0 b1 b2 b3 }
@@ -25,6 +32,8 @@ fn four_terms(a: &[f64; 16], i: usize, b0: f64, b1: f64, b2: f64, b3: f64) -> f6
 }
 
 // Row i of a, times column t of the matrix b of four rows.
+// Kept: a matrix and a row of it; a method on a struct around the array would read the same, and is no plainer.
+#[tactic(auto, unfolding(crate::specs::Products::entry_of))]
 fn entry(a: &[f64; 16], b: &[f64], columns: usize, i: usize, t: usize) -> f64
     requires { (4 * columns ≤ length b.now) × (i < 4) × (t < columns) }
     ensures { result ≡ entry_of a.now b.now columns i t }
@@ -40,15 +49,14 @@ fn entry(a: &[f64; 16], b: &[f64], columns: usize, i: usize, t: usize) -> f64
 }
 
 // Row i of a, times the matrix b of four rows, into the places of row i.
+// Kept: a matrix and a row of it; a method on a struct around the array would read the same, and is no plainer.
 fn put_row(a: &[f64; 16], b: &[f64], columns: usize, i: usize, out: &mut [f64])
     requires { (4 * columns ≤ length b.now) × (4 * columns ≤ length out.old) × (i < 4) }
     ensures { out.new ≡ over_from (columns * i) (values (entry_of a.now b.now columns i) columns) out.old }
 {
     let start = columns * i;
-    let mut t: usize = 0;
-    while t < columns {
+    for t in 0..columns {
         out[start + t] = entry(a, b, columns, i, t);
-        t += 1;
     }
 }
 
@@ -62,10 +70,9 @@ pub fn put_stress_values(
     ensures { out.new ≡ over (times_of material.now strain.now (2 * nodes_of family)) out.old }
 {
     let columns = 2 * elements::nodes_per_element(family);
-    put_row(material, strain, columns, 0, out);
-    put_row(material, strain, columns, 1, out);
-    put_row(material, strain, columns, 2, out);
-    put_row(material, strain, columns, 3, out);
+    for i in 0..4 {
+        put_row(material, strain, columns, i, out);
+    }
 }
 
 // The product of two matrices of sixteen numbers. The number of columns is one that the compiler knows: the rows become straight code.
@@ -73,40 +80,25 @@ pub fn product(a: &[f64; 16], b: &[f64; 16]) -> [f64; 16]
     ensures { result ≡ product_of a.now b.now }
 {
     let mut out = [0.0; 16];
-    put_row(a, b, 4, 0, &mut out);
-    put_row(a, b, 4, 1, &mut out);
-    put_row(a, b, 4, 2, &mut out);
-    put_row(a, b, 4, 3, &mut out);
+    for i in 0..4 {
+        put_row(a, b, 4, i, &mut out);
+    }
     out
 }
 
-// ---- a material of the table
-
-// The part of the lent table that is a material. For a number outside the table it is empty, or what is left after the last whole material.
-pub fn material_part<'a>(table: &'a [f64], number: usize) -> &'a [f64]
-    ensures { result.now ≡ material_of table.now number }
-{
-    let start = lists::part_start(16, number, table.len());
-    let end = lists::part_end(16, start, table.len());
-    &table[start..end]
-}
+// ---- a material as an array
 
 // A material as an array, with NaN for the numbers that it does not have.
 fn copy_material(material: &[f64]) -> [f64; 16]
     ensures { result ≡ sixteen material.now }
 {
-    let mut out = [0.0; 16];
-    let mut i: usize = 0;
-    while i < 16 {
-        out[i] = lists::value_at(material, i);
-        i += 1;
-    }
-    out
+    array::from_fn(|i| lists::value_at(material, i))
 }
 
 // ---- a material turned in the plane
 
 // The matrix that takes strains to the material's own axes.
+// Kept: the definition's two numbers of a pair; a struct for them would be taken apart at once, and is no plainer.
 fn strain_to_local(c: f64, s: f64) -> [f64; 16]
     ensures { result ≡ strain_to_local c s }
 {
@@ -134,6 +126,7 @@ fn strain_to_local(c: f64, s: f64) -> [f64; 16]
 }
 
 // The matrix that takes stresses back from the material's own axes.
+// Kept: the definition's two numbers of a pair; a struct for them would be taken apart at once, and is no plainer.
 fn stress_to_global(c: f64, s: f64) -> [f64; 16]
     ensures { result ≡ stress_to_global c s }
 {
@@ -161,13 +154,16 @@ fn stress_to_global(c: f64, s: f64) -> [f64; 16]
 }
 
 // Whether a pair is equal to (1, 0), where a zero of either sign is.
+// Kept: the definition's two numbers of a pair; a struct for them would be taken apart at once, and is no plainer.
 fn is_unturned(c: f64, s: f64) -> bool
     ensures { result ≡ eq c one && eq s plus0 }
 {
-    if c == 1.0 { s == 0.0 } else { false }
+    c == 1.0 && s == 0.0
 }
 
 // A material turned by the pair (c, s): a pair equal to (1, 0) copies it, and any other turns strains to its axes and stresses back.
+// Kept: the definition's two numbers of a pair; a struct for them would be taken apart at once, and is no plainer.
+#[tactic(auto, using(crate::proofs::Turning::copied, crate::proofs::Turning::turned))]
 pub fn rotate_material_in_plane(material: &[f64], c: f64, s: f64) -> [f64; 16]
     ensures { result ≡ sixteen (rotated material.now c s) }
 {
@@ -176,23 +172,4 @@ pub fn rotate_material_in_plane(material: &[f64], c: f64, s: f64) -> [f64; 16]
     }
     let half = product(&copy_material(material), &strain_to_local(c, s));
     product(&stress_to_global(c, s), &half)
-}
-
-// The material of an element: that of its number, turned by the element's pair where pairs are given. Where they are not, their list is not read.
-pub fn oriented_material(
-    table: &[f64],
-    number: usize,
-    given: bool,
-    pairs: &[f64],
-    element_index: usize,
-) -> [f64; 16]
-    ensures { result ≡ sixteen (oriented_material table.now number given pairs.now element_index) }
-{
-    let material = material_part(table, number);
-    if given {
-        let pair = lists::pair_at(pairs, element_index);
-        rotate_material_in_plane(material, pair.x, pair.y)
-    } else {
-        copy_material(material)
-    }
 }

@@ -1,41 +1,49 @@
--- Question 8 from where a walk over the elements stands: past the last one all its questions hold, and at an element with a number that is not below the node count that one's is the first no. Assumes nothing.
+-- Question 8 by what a walk over the elements finds: every number below the node count, or the first element with one that is not. Assumes nothing.
 use mathlib.Core.Path.{◌≡◌, sym}
-use mathlib.Core.Bool.{Bool, true, false}
+use mathlib.Core.Bool.{true}
 use mathlib.Core.List.{List, [], ◌∷◌}
-use Prim.Native.Nat.{ℕ, ◌+◌, ◌*◌, ◌<◌}
-use native.Mathlib.Nat.{le_refl}
-use borrow.Author.Tests.{le-leb, lt-leb}
-use lib.Dec.{leb, ltb}
-use lib.ListN.{get_or}
+use mathlib.Core.Logic.{inl, inr}
+use Prim.Native.Nat.{ℕ, ◌+◌, ◌≤◌, ◌<◌}
+use native.Mathlib.Nat.{le_of_suc-le-suc, eq-or-lt_of_le}
+use native.Mathlib.Numerals.{add-one}
+use native.Mathlib.Omega.{arith}
+use borrow.Author.Tests.{lt-ltb, le-ltb}
+use lib.Dec.{ltb}
+use lib.ListN.{length}
 use Rattle.definition.specs.Lists.{every}
 use Rattle.definition.specs.Elements.{nodes_of}
-use Rattle.definition.specs.Mesh.{Mesh, node_count, element_count, node_of}
-use Rattle.definition.specs.Questions.{Question, ask, asked, node_numbers}
-use Rattle.definition.proofs.Lists.{every_next}
+use Rattle.definition.specs.Mesh.{Mesh, node_count, element_count, element_nodes, node_of}
+use Rattle.definition.specs.Questions.{Question, accepted, refused, ask, asked, node_numbers}
+use Rattle.definition.proofs.Lists.{every_of, every_fails}
 use Rattle.definition.proofs.Passing.{passes, all_asked, first_refused}
-use Rattle.definition.proofs.Renumbering.Moves.{node_at}
+use Rattle.mesh.proofs.Rows.{row_length}
 
--- whether the node at local place j of element e is below the node count
-abbrev pub known : Mesh → ℕ → ℕ → Bool
-known m e j = ltb (node_of m e j) (node_count m)
+-- the numbers of the first n elements are below the node count
+pub record AllKnown (m : Mesh) (n : ℕ) : Type 0 where
+  pub known : (e : ℕ) → e < n → (j : ℕ) → j < nodes_of m.family → node_of m e j < node_count m
 
 -- question 8 of element e
-abbrev pub numbered : Mesh → ℕ → List Question
-numbered m e = ask 8 e (every (known m e) (nodes_of m.family)) ∷ []
+abbrev numbered : Mesh → ℕ → List Question
+numbered m e = ask 8 e (every (λ j. ltb (node_of m e j) (node_count m)) (nodes_of m.family)) ∷ []
 
--- the node that a walk reads
-pub read_known : (m : Mesh) (e : ℕ) {f j v : ℕ} → f ≡ nodes_of m.family → j < f → v ≡ get_or m.elements (f * e + j) 0 → ltb v (node_count m) ≡ known m e j
-read_known m e {j = j} p l q = rw (q, p, node_at m e j (rw p at l))
-
--- one element more whose F numbers are all known
-pub walk_next : (m : Mesh) (e : ℕ) {j : ℕ} → every (λ e. passes (numbered m e)) e ≡ true → every (known m e) j ≡ true → j ≡ nodes_of m.family → every (λ e. passes (numbered m e)) (e + 1) ≡ true
+passed : (m : Mesh) {n : ℕ} → AllKnown m n → every (λ e. passes (numbered m e)) n ≡ true
 unfolding passes
-walk_next m e h k p = every_next (λ e. passes (numbered m e)) e h (rw (rw p at k))
+passed m h = every_of (λ e l. rw (every_of (λ j k. lt-ltb _ _ (h.known e l j k))))
 
-pub walked : (m : Mesh) {r : ℕ} → every (λ e. passes (numbered m e)) r ≡ true → r ≡ element_count m → asked (ask 8 r (leb (element_count m) r) ∷ []) (tt {0}) ≡ asked (node_numbers m) tt
-unfolding asked node_numbers
-walked m {r} h e = rw (← e, le-leb r r (le_refl r)) (sym (all_asked (numbered m) r tt h))
+pub one_more : (m : Mesh) {e n : ℕ} → AllKnown m e → e < element_count m → length (element_nodes m e) ≤ n → ((j : ℕ) → j < n → node_of m e j < node_count m) → AllKnown m (e + 1)
+one_more m {e} h l k b = record {
+  known = λ i q.
+      elim (eq-or-lt_of_le (le_of_suc-le-suc (rw add-one at q))) [
+        | inl same ↦ rw same (λ j p. b j (omega (arith, row_length m e l)))
+        | inr before ↦ h.known i before
+      ];
+}
 
-pub stopped : (m : Mesh) {r : ℕ} → every (λ e. passes (numbered m e)) r ≡ true → r < element_count m → every (known m r) (nodes_of m.family) ≡ false → asked (ask 8 r (leb (element_count m) r) ∷ []) (tt {0}) ≡ asked (node_numbers m) tt
+pub all_known : (m : Mesh) {n : ℕ} → n ≡ element_count m → AllKnown m n → accepted tt ≡ asked (node_numbers m) (tt {0})
+unfolding node_numbers
+all_known m e h = sym (all_asked (numbered m) (element_count m) tt (passed m (rw e at h)))
+
+pub first_unknown : (m : Mesh) {e j : ℕ} → AllKnown m e → e < element_count m → j < length (element_nodes m e) → node_count m ≤ node_of m e j → refused 8 e ≡ asked (node_numbers m) (tt {0})
 unfolding asked node_numbers
-stopped m {r} h l e = rw (lt-leb (element_count m) r l) (sym (first_refused (numbered m) (element_count m) r tt h l (rw e)))
+first_unknown m {e} h l k b =
+    sym (first_refused (numbered m) (element_count m) e tt (passed m h) l (rw (every_fails (λ j. ltb (node_of m e j) (node_count m)) (nodes_of m.family) (rw (row_length m e l) at k) (le-ltb _ _ b))))

@@ -1,3 +1,2 @@
--- A theorem of the numbers, and what the exported calls cite.
+-- A theorem of the numbers.
 pub mod Told
-pub mod Kept

@@ -1,8 +1,8 @@
 -- A C caller's numbers: what they mean, and which numbers an outcome is. "A yes/no beside the list says whether pairs are given".
 use Rattle.std.specs.Prelude.{Bool, not, cond, ℕ, eqb, Float}
 use Rattle.definition.specs.Questions.{Outcome, accepted, refused}
-use Rattle.definition.specs.Query.{QueryCounts}
-use Rattle.definition.specs.Operators.{OperatorCounts}
+use Rattle.definition.specs.declared.QueryCounts.{QueryCounts}
+use Rattle.definition.specs.declared.OperatorCounts.{OperatorCounts}
 use Rattle.definition.specs.declared.Structural2dFormulation.{Structural2dFormulation}
 use Rattle.definition.specs.declared.Structural2dFormulation.TheVariants.{Axisymmetric, PlaneStrain}
 use Rattle.numbers.specs.declared.QueryNumbers.{QueryNumbers}

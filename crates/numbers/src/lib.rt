@@ -3,14 +3,13 @@
 #![tactic(auto)]
 
 ghost use Rattle.std.specs.Prelude.{◌≡◌};
-ghost use Rattle.definition.specs.Query.{query_outcome};
-ghost use Rattle.definition.specs.Operators.{operator_outcome};
-ghost use Rattle.definition.specs.Job.{job_outcome};
+ghost use Rattle.definition.specs.Questions.{outcome};
 ghost use Rattle.numbers.specs.Numbers.{formulation_of, yes_of, query_numbers, operator_numbers, job_numbers};
 
-use definition::{JobAnswer, OperatorAnswer, QueryAnswer, Structural2dFormulation};
+use definition::{OperatorCounts, QueryCounts, Refusal, Structural2dFormulation};
 
 // What a query answers, in numbers: `question` is 0 where it is accepted, and `place` then too; else the three counts are 0.
+// Kept: the C interface reads the question as a number, with the counts beside it.
 #[repr(C)]
 #[derive(Clone, Copy)]
 pub struct QueryNumbers {
@@ -22,6 +21,7 @@ pub struct QueryNumbers {
 }
 
 // What an operator answers, in numbers, likewise.
+// Kept: the C interface reads the question as a number, with the counts beside it.
 #[repr(C)]
 #[derive(Clone, Copy)]
 pub struct OperatorNumbers {
@@ -33,6 +33,7 @@ pub struct OperatorNumbers {
 }
 
 // What the call from a job's bytes to its listing answers, in numbers, likewise.
+// Kept: the C interface reads the question as a number, with the counts beside it.
 #[repr(C)]
 #[derive(Clone, Copy)]
 pub struct JobNumbers {
@@ -42,6 +43,7 @@ pub struct JobNumbers {
 }
 
 // Formulation 0 is axisymmetric, and any other number plane strain of the thickness, whatever that is.
+// Kept: the C interface passes the strains that are meant as a number, with the thickness beside it.
 pub fn formulation_of(formulation: usize, thickness: f64) -> Structural2dFormulation
     ensures { result ≡ formulation_of formulation thickness }
 {
@@ -53,78 +55,77 @@ pub fn formulation_of(formulation: usize, thickness: f64) -> Structural2dFormula
 }
 
 // 0 is no, and any other number yes.
+// Kept: the C interface passes a yes or a no as a number.
 pub fn yes_of(number: usize) -> bool
     ensures { result ≡ yes_of number }
 {
     number != 0
 }
 
-// The numbers of a query's answer.
-pub fn query_numbers(answer: QueryAnswer) -> QueryNumbers
-    ensures { result ≡ query_numbers (query_outcome answer) }
-{
-    match answer {
-        QueryAnswer::Accepted {
-            points,
-            repeated,
-            inside,
-        } => QueryNumbers {
-            question: 0,
-            place: 0,
-            points,
-            repeated,
-            inside,
-        },
-        QueryAnswer::Refused { question, place } => QueryNumbers {
-            question: question as usize,
-            place,
-            points: 0,
-            repeated: 0,
-            inside: 0,
-        },
+// Kept: a C struct has its counts as fields of its own, so a generic function would still need each struct's fields named, and is no plainer.
+impl From<Result<QueryCounts, Refusal>> for QueryNumbers {
+    ghost from_gives = { λ answer n. n ≡ query_numbers (outcome answer) };
+
+    fn from(answer: Result<QueryCounts, Refusal>) -> QueryNumbers {
+        match answer {
+            Ok(counts) => QueryNumbers {
+                question: 0,
+                place: 0,
+                points: counts.points,
+                repeated: counts.repeated,
+                inside: counts.inside,
+            },
+            Err(refusal) => QueryNumbers {
+                question: usize::from(refusal.question.number()),
+                place: refusal.place,
+                points: 0,
+                repeated: 0,
+                inside: 0,
+            },
+        }
     }
 }
 
-// The numbers of an operator's answer.
-pub fn operator_numbers(answer: OperatorAnswer) -> OperatorNumbers
-    ensures { result ≡ operator_numbers (operator_outcome answer) }
-{
-    match answer {
-        OperatorAnswer::Built {
-            rows,
-            columns,
-            triplets,
-        } => OperatorNumbers {
-            question: 0,
-            place: 0,
-            rows,
-            columns,
-            triplets,
-        },
-        OperatorAnswer::Refused { question, place } => OperatorNumbers {
-            question: question as usize,
-            place,
-            rows: 0,
-            columns: 0,
-            triplets: 0,
-        },
+// Kept: a C struct has its counts as fields of its own, so a generic function would still need each struct's fields named, and is no plainer.
+impl From<Result<OperatorCounts, Refusal>> for OperatorNumbers {
+    ghost from_gives = { λ answer n. n ≡ operator_numbers (outcome answer) };
+
+    fn from(answer: Result<OperatorCounts, Refusal>) -> OperatorNumbers {
+        match answer {
+            Ok(counts) => OperatorNumbers {
+                question: 0,
+                place: 0,
+                rows: counts.rows,
+                columns: counts.columns,
+                triplets: counts.triplets,
+            },
+            Err(refusal) => OperatorNumbers {
+                question: usize::from(refusal.question.number()),
+                place: refusal.place,
+                rows: 0,
+                columns: 0,
+                triplets: 0,
+            },
+        }
     }
 }
 
-// The numbers of a job's answer.
-pub fn job_numbers(answer: JobAnswer) -> JobNumbers
-    ensures { result ≡ job_numbers (job_outcome answer) }
-{
-    match answer {
-        JobAnswer::Listed { bytes } => JobNumbers {
-            question: 0,
-            place: 0,
-            bytes,
-        },
-        JobAnswer::Refused { question, place } => JobNumbers {
-            question: question as usize,
-            place,
-            bytes: 0,
-        },
+// Kept: a C struct has its counts as fields of its own, so a generic function would still need each struct's fields named, and is no plainer.
+impl From<Result<usize, Refusal>> for JobNumbers {
+    ghost from_gives = { λ answer n. n ≡ job_numbers (outcome answer) };
+
+    fn from(answer: Result<usize, Refusal>) -> JobNumbers {
+        match answer {
+            Ok(bytes) => JobNumbers {
+                question: 0,
+                place: 0,
+                bytes,
+            },
+            Err(refusal) => JobNumbers {
+                question: usize::from(refusal.question.number()),
+                place: refusal.place,
+                bytes: 0,
+            },
+        }
     }
 }

@@ -1,4 +1,4 @@
--- What an exported operator promises: `OperatorPromise`, with numbers in place of the enum.
+-- What an exported operator promises: `OperatorPromise`, with numbers in place of the `Result`.
 use Rattle.definition.specs.Operators.{InterpolationCall, StrainCall, StressCall, Operator, TripletLists, operated, triplet_lists, interpolation, strain, stress}
 use Rattle.numbers.specs.Exported.{Exported}
 use Rattle.numbers.specs.Numbers.{operator_numbers}

@@ -2,13 +2,21 @@
 // It knows the public calls and which numbers stand for their types. It asks no question of its own, so a refusal is the call's, and its answer is the call's in numbers.
 #![tactic(auto)]
 
-ghost use Rattle.operator_questions.specs.Calls.{interpolation_call, strain_call, stress_call};
+ghost use Rattle.std.specs.Prelude.{◌≡◌};
+ghost use Rattle.definition.specs.Operators.{TripletLists as Lists, stress};
+ghost use Rattle.calls.specs.Flat.{interpolation_call, strain_call, stress_call};
 ghost use Rattle.numbers.specs.Numbers.{formulation_of, yes_of};
 ghost use Rattle.operator_exports.specs.Operators.{InterpolationExported, StrainExported, StressExported};
 
+use calls::{InterpolationCall, StrainCall, StressCall};
+use definition::Structural2dFormulation;
+use materials::Materials;
+use mesh::QuadMesh;
 use numbers::OperatorNumbers;
+use triplets::TripletLists;
 
 // `quad_mesh_interpolation_operator`: one row a point and one column a node, in three lent lists.
+// Kept: the C interface has each list, and each number, as a parameter of its own.
 pub fn sobrizenta_interpolation_operator<'a>(
     family: usize,
     nodes_rz: &'a [f64],
@@ -25,20 +33,18 @@ pub fn sobrizenta_interpolation_operator<'a>(
         result
         (record { rows = rows.new; columns = columns.new; values = values.new }) }
 {
-    let answer = interpolation::quad_mesh_interpolation_operator(
-        family,
-        nodes_rz,
-        elements,
-        element_indices,
-        reference_points,
+    let mesh = QuadMesh::new(family, nodes_rz, elements);
+    let call = InterpolationCall::new(mesh, element_indices, reference_points);
+    let mut lent = TripletLists {
         rows,
         columns,
         values,
-    );
-    numbers::operator_numbers(answer)
+    };
+    interpolation::quad_mesh_interpolation_operator(&call, &mut lent).into()
 }
 
 // `quad_mesh_strain_operator`: four rows a point and two columns a node. `formulation` 0 is axisymmetric, and any other number plane strain; the thickness is not read.
+// Kept: the C interface has each list, and each number, as a parameter of its own.
 pub fn sobrizenta_strain_operator<'a>(
     family: usize,
     nodes_rz: &'a [f64],
@@ -57,21 +63,37 @@ pub fn sobrizenta_strain_operator<'a>(
         result
         (record { rows = rows.new; columns = columns.new; values = values.new }) }
 {
-    let answer = strain::quad_mesh_strain_operator(
-        family,
-        nodes_rz,
-        elements,
-        element_indices,
-        reference_points,
-        numbers::formulation_of(formulation, thickness),
+    let mesh = QuadMesh::new(family, nodes_rz, elements);
+    let base = InterpolationCall::new(mesh, element_indices, reference_points);
+    let call = StrainCall::new(base, numbers::formulation_of(formulation, thickness));
+    let mut lent = TripletLists {
         rows,
         columns,
         values,
-    );
-    numbers::operator_numbers(answer)
+    };
+    strain::quad_mesh_strain_operator(&call, &mut lent).into()
+}
+
+// The stress operator's call. A list of pairs that is not given is not read.
+// Kept: the flag beside the list, as the C interface has them; the base and the formulation are parts of the call that it makes.
+#[tactic(auto, using(calls::proofs::Pairs::pairs_unread))]
+fn stress_call_of<'a>(
+    base: InterpolationCall<'a>,
+    formulation: Structural2dFormulation,
+    material_ids: &'a [usize],
+    material_table: &'a [f64],
+    pairs_given: bool,
+    pairs: &'a [f64],
+) -> StressCall<'a>
+    ensures { (lent : Lists) → stress result lent ≡ stress (stress_call base.entry formulation material_ids.now material_table.now pairs_given pairs.now) lent }
+{
+    let pairs = pairs_given.then_some(pairs);
+    let materials = Materials::new(material_ids, material_table, pairs);
+    StressCall::new(base, formulation, materials)
 }
 
 // `quad_mesh_stress_operator`: material times strain, likewise. `pairs_given` 0 is no, and any other number yes.
+// Kept: the C interface has each list, and each number, as a parameter of its own.
 pub fn sobrizenta_stress_operator<'a>(
     family: usize,
     nodes_rz: &'a [f64],
@@ -82,6 +104,7 @@ pub fn sobrizenta_stress_operator<'a>(
     thickness: f64,
     material_ids: &[usize],
     material_table: &[f64],
+    // Kept: a number, as the C interface has it.
     pairs_given: usize,
     pairs: &[f64],
     rows: &mut [usize],
@@ -94,20 +117,20 @@ pub fn sobrizenta_stress_operator<'a>(
         result
         (record { rows = rows.new; columns = columns.new; values = values.new }) }
 {
-    let answer = stress::quad_mesh_stress_operator(
-        family,
-        nodes_rz,
-        elements,
-        element_indices,
-        reference_points,
+    let mesh = QuadMesh::new(family, nodes_rz, elements);
+    let base = InterpolationCall::new(mesh, element_indices, reference_points);
+    let call = stress_call_of(
+        base,
         numbers::formulation_of(formulation, thickness),
         material_ids,
         material_table,
         numbers::yes_of(pairs_given),
         pairs,
+    );
+    let mut lent = TripletLists {
         rows,
         columns,
         values,
-    );
-    numbers::operator_numbers(answer)
+    };
+    stress::quad_mesh_stress_operator(&call, &mut lent).into()
 }

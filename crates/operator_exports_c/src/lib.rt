@@ -4,13 +4,14 @@
 // In C a slice is two parameters, a pointer and a length.
 #![tactic(auto)]
 
-ghost use Rattle.operator_questions.specs.Calls.{interpolation_call, strain_call, stress_call};
+ghost use Rattle.calls.specs.Flat.{interpolation_call, strain_call, stress_call};
 ghost use Rattle.numbers.specs.Numbers.{formulation_of, yes_of};
 ghost use Rattle.operator_exports.specs.Operators.{InterpolationExported, StrainExported, StressExported};
 
 use numbers::OperatorNumbers;
 
 // `quad_mesh_interpolation_operator`: one row a point and one column a node, in three lent lists.
+// Kept: the C interface has each list, and each number, as a parameter of its own.
 #[unsafe(no_mangle)]
 pub extern "C" fn sobrizenta_interpolation_operator<'a>(
     family: usize,
@@ -41,6 +42,7 @@ pub extern "C" fn sobrizenta_interpolation_operator<'a>(
 }
 
 // `quad_mesh_strain_operator`: four rows a point and two columns a node. `formulation` 0 is axisymmetric, and any other number plane strain; the thickness is not read.
+// Kept: the C interface has each list, and each number, as a parameter of its own.
 #[unsafe(no_mangle)]
 pub extern "C" fn sobrizenta_strain_operator<'a>(
     family: usize,
@@ -75,6 +77,7 @@ pub extern "C" fn sobrizenta_strain_operator<'a>(
 }
 
 // `quad_mesh_stress_operator`: material times strain, likewise. `pairs_given` 0 is no, and any other number yes.
+// Kept: the C interface has each list, and each number, as a parameter of its own.
 #[unsafe(no_mangle)]
 pub extern "C" fn sobrizenta_stress_operator<'a>(
     family: usize,
@@ -86,6 +89,7 @@ pub extern "C" fn sobrizenta_stress_operator<'a>(
     thickness: f64,
     material_ids: &[usize],
     material_table: &[f64],
+    // Kept: a number, as the C interface has it.
     pairs_given: usize,
     pairs: &[f64],
     rows: &mut [usize],

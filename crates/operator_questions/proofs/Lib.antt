@@ -1,2 +1,2 @@
 -- What holds of questions asked in parts.
-pub mod Asking
+mod Parts

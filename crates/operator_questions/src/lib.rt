@@ -1,262 +1,107 @@
-// The questions of the three operators, in document 01's order: first those on the lists, then those of one point after the other.
-// A mesh is three parameters: its family; `nodes_rz`, two coordinates a node; and `elements`, the connectivity. `room` is the answer of question 7.
+// The questions of the three operators, in document 01's order: first those on the lists, then those of one point after the other. It knows the definition, the calls and the questions on a mesh and on a point: no triplet and no lent list.
+// `room` is the answer of question 7, for the lists lent to the call.
 #![tactic(auto)]
 
-ghost use Rattle.std.specs.Prelude.{◌≡◌, not, ◌&&◌, ◌||◌, [], ◌∷◌, ◌++◌, ◌*◌, ◌/◌, ◌%◌, leb, eqb, length};
+ghost use Rattle.std.specs.Prelude.{◌≡◌, [], ◌∷◌, ◌++◌, ◌*◌, length};
 ghost use Rattle.definition.specs.Elements.{nodes_of};
-ghost use Rattle.definition.specs.Mesh.{Mesh};
-ghost use Rattle.definition.specs.Questions.{asked, onward, verdict_outcome, whole, node_numbers, numbers_match};
+ghost use Rattle.definition.specs.Questions.{asked, outcome, materials_whole, node_numbers, numbers_match, materials_match, pairs_match};
 ghost use Rattle.definition.specs.Operators.{TripletLists, triplet_room, mesh_questions, interpolation_questions, strain_questions, stress_questions};
-ghost use Rattle.operator_questions.specs.Calls.{interpolation_call, strain_call, stress_call, listed, material_listed};
 
-use definition::{Structural2dFormulation, Verdict};
+use calls::{InterpolationCall, StrainCall, StressCall};
+use definition::{QuestionKind, Refusal};
 
 // ---- on the lists
 
-// Whether a list of `values` reference coordinates is whole pairs, and pairs and element numbers are at most 1,000,000 each.
-fn references_whole(values: usize, count: usize) -> bool
-    ensures { result ≡ whole 2 values && leb count 1000000 }
-{
-    if asking::whole(2, values) {
-        count <= 1000000
-    } else {
-        false
-    }
-}
-
 // Questions 1, 2, 3 and 5.
-fn mesh_questions(
-    family: usize,
-    nodes_rz: &[f64],
-    elements: &[u32],
-    element_indices: &[usize],
-    reference_points: &[f64],
-) -> Verdict
-    ensures { verdict_outcome result ≡ asked (mesh_questions (interpolation_call family nodes_rz.now elements.now element_indices.now reference_points.now)) tt }
+#[tactic(auto, unfolding(definition::specs::Questions::asked))]
+fn mesh_questions(call: &InterpolationCall) -> Result<(), Refusal>
+    ensures { outcome result ≡ asked (mesh_questions call.now) tt }
 {
-    let v = mesh_questions::mesh_questions(family, nodes_rz, elements);
-    let holds = references_whole(reference_points.len(), element_indices.len());
-    asking::then(v, holds, 5, 0)
+    mesh_questions::mesh_questions(call.mesh())?;
+    let pairs_whole = asking::whole(2, call.reference_points().len());
+    let whole = pairs_whole && call.num_points() <= 1000000;
+    asking::ask(whole, QuestionKind::PointsWhole, 0)
 }
 
-// The verdict so far, and after a pass questions 8 and 11.
-fn number_questions(
-    v: Verdict,
-    family: usize,
-    nodes_rz: &[f64],
-    elements: &[u32],
-    element_indices: &[usize],
-    reference_points: &[f64],
-) -> Verdict
-    ensures { (let m : Mesh = record { family = family; nodes = nodes_rz.now; elements = elements.now } in
-        verdict_outcome result ≡ onward (verdict_outcome v) (asked (node_numbers m ++ numbers_match element_indices.now reference_points.now ∷ []) tt)) }
+// Questions 8 and 11.
+#[tactic(auto, using(definition::proofs::Passing::asked_append), unfolding(definition::specs::Questions::asked))]
+fn number_questions(call: &InterpolationCall) -> Result<(), Refusal>
+    ensures { outcome result ≡ asked (node_numbers call.now.mesh ++ numbers_match call.now.element_indices call.now.reference_points ∷ []) tt }
 {
-    let w = mesh_questions::connectivity_question(family, nodes_rz, elements);
-    let v = asking::after(v, w);
-    asking::then(
-        v,
-        element_indices.len() == reference_points.len() / 2,
-        11,
-        0,
-    )
-}
-
-// Questions 1, 2, 3, 5, 7, 8 and 11.
-fn list_questions(
-    family: usize,
-    nodes_rz: &[f64],
-    elements: &[u32],
-    element_indices: &[usize],
-    reference_points: &[f64],
-    room: bool,
-) -> Verdict
-    ensures { verdict_outcome result ≡ asked (listed (interpolation_call family nodes_rz.now elements.now element_indices.now reference_points.now) room) tt }
-{
-    let v = mesh_questions(
-        family,
-        nodes_rz,
-        elements,
-        element_indices,
-        reference_points,
-    );
-    let v = asking::then(v, room, 7, 0);
-    number_questions(
-        v,
-        family,
-        nodes_rz,
-        elements,
-        element_indices,
-        reference_points,
-    )
+    mesh_questions::connectivity_question(call.mesh())?;
+    let matched = call.num_points() == call.reference_points().len() / 2;
+    asking::ask(matched, QuestionKind::NumbersMatch, 0)
 }
 
 // ---- interpolation: 1, 2, 3, 5, 7, 8, 11, and for each point 14
 
-pub fn interpolation_questions(
-    family: usize,
-    nodes_rz: &[f64],
-    elements: &[u32],
-    element_indices: &[usize],
-    reference_points: &[f64],
-    room: bool,
-) -> Verdict
-    ensures { (lent : TripletLists) → room ≡ triplet_room lent (nodes_of family * length element_indices.now) →
-        verdict_outcome result ≡ asked (interpolation_questions (interpolation_call family nodes_rz.now elements.now element_indices.now reference_points.now) lent) tt }
+// The questions of interpolation, in order.
+// Kept: each operator asks its own questions in order, as its contract lists them; a function for all three would need each list handed in, and is no plainer.
+#[tactic(auto, using(definition::proofs::Passing::asked_append), unfolding(definition::specs::Questions::asked, definition::specs::Operators::interpolation_questions))]
+pub fn interpolation_questions(call: &InterpolationCall, room: bool) -> Result<(), Refusal>
+    ensures { (lent : TripletLists) → room ≡ triplet_room lent (nodes_of call.now.mesh.family * length call.now.element_indices) →
+        outcome result ≡ asked (interpolation_questions call.now lent) tt }
 {
-    let v = list_questions(
-        family,
-        nodes_rz,
-        elements,
-        element_indices,
-        reference_points,
-        room,
-    );
-    if let Verdict::Refused { .. } = v {
-        return v;
-    }
-    point_questions::interpolation_point_questions(family, elements, element_indices)
+    mesh_questions(call)?;
+    asking::ask(room, QuestionKind::Room, 0)?;
+    number_questions(call)?;
+    point_questions::interpolation_point_questions(call)
 }
 
 // ---- strain: 1, 2, 3, 5, 7, 8, 11, and for each point 14, 16, 17
 
-pub fn strain_questions(
-    family: usize,
-    nodes_rz: &[f64],
-    elements: &[u32],
-    element_indices: &[usize],
-    reference_points: &[f64],
-    formulation: Structural2dFormulation,
-    room: bool,
-) -> Verdict
-    ensures { (lent : TripletLists) → room ≡ triplet_room lent (8 * nodes_of family * length element_indices.now) →
-        verdict_outcome result ≡ asked (strain_questions (strain_call (interpolation_call family nodes_rz.now elements.now element_indices.now reference_points.now) formulation) lent) tt }
+// The questions of strain, in order.
+// Kept: each operator asks its own questions in order, as its contract lists them; a function for all three would need each list handed in, and is no plainer.
+#[tactic(auto, using(definition::proofs::Passing::asked_append), unfolding(definition::specs::Questions::asked, definition::specs::Operators::strain_questions))]
+pub fn strain_questions(call: &StrainCall, room: bool) -> Result<(), Refusal>
+    ensures { (lent : TripletLists) → room ≡ triplet_room lent (8 * nodes_of call.now.base.mesh.family * length call.now.base.element_indices) →
+        outcome result ≡ asked (strain_questions call.now lent) tt }
 {
-    let v = list_questions(
-        family,
-        nodes_rz,
-        elements,
-        element_indices,
-        reference_points,
-        room,
-    );
-    if let Verdict::Refused { .. } = v {
-        return v;
-    }
-    point_questions::strain_point_questions(
-        family,
-        nodes_rz,
-        elements,
-        element_indices,
-        reference_points,
-        formulation,
-    )
+    mesh_questions(call.base())?;
+    asking::ask(room, QuestionKind::Room, 0)?;
+    number_questions(call.base())?;
+    point_questions::strain_point_questions(call)
 }
 
 // ---- stress: 1, 2, 3, 5, 6, 7, 8, 11, 12, 13, and for each point 14, 15, 16, 17
 
-// Whether the material table is whole sixteens, at most 1,000,000 of them, and, if pairs are given, their list is even.
-fn materials_whole(table_len: usize, pairs_given: bool, pairs_len: usize) -> bool
-    ensures { result ≡ whole 16 table_len && (not pairs_given || eqb (pairs_len % 2) 0) }
+// Question 6: is the material table whole sixteens, at most 1,000,000 of them, and, if pairs are given, their list even?
+#[tactic(auto, unfolding(definition::specs::Questions::asked))]
+fn material_question(call: &StressCall) -> Result<(), Refusal>
+    ensures { let c = call.now in outcome result ≡ asked (materials_whole c.material_table c.pairs_given c.pairs ∷ []) tt }
 {
-    if asking::whole(16, table_len) {
-        if pairs_given {
-            pairs_len % 2 == 0
-        } else {
-            true
-        }
-    } else {
-        false
-    }
+    let materials = call.materials();
+    let table_whole = asking::whole(16, materials.table().len());
+    let pairs_whole = materials.pairs().is_none_or(|pairs| pairs.len() % 2 == 0);
+    asking::ask(table_whole && pairs_whole, QuestionKind::MaterialsWhole, 0)
 }
 
-// Whether there are as many pairs as elements, if pairs are given.
-fn pairs_match(pairs_given: bool, pairs_len: usize, count: usize) -> bool
-    ensures { result ≡ not pairs_given || eqb (pairs_len / 2) count }
+// Questions 12 and 13: as many material numbers as elements, and, if pairs are given, as many pairs?
+#[tactic(auto, unfolding(definition::specs::Questions::asked))]
+fn element_questions(call: &StressCall) -> Result<(), Refusal>
+    ensures { let c = call.now in outcome result ≡ asked (materials_match c.material_ids c.base.mesh ∷ pairs_match c.pairs_given c.pairs c.base.mesh ∷ []) tt }
 {
-    if pairs_given {
-        pairs_len / 2 == count
-    } else {
-        true
-    }
+    let materials = call.materials();
+    let count = call.base().mesh().num_elements();
+    let matched = materials.ids().len() == count;
+    asking::ask(matched, QuestionKind::MaterialsMatch, 0)?;
+    let matched = materials
+        .pairs()
+        .is_none_or(|pairs| pairs.len() / 2 == count);
+    asking::ask(matched, QuestionKind::PairsMatch, 0)
 }
 
-// Questions 1, 2, 3, 5, 6, 7, 8, 11, 12 and 13.
-fn material_questions(
-    family: usize,
-    nodes_rz: &[f64],
-    elements: &[u32],
-    element_indices: &[usize],
-    reference_points: &[f64],
-    material_ids: &[usize],
-    material_table: &[f64],
-    pairs_given: bool,
-    pairs: &[f64],
-    room: bool,
-) -> Verdict
-    ensures { verdict_outcome result ≡ asked (material_listed (interpolation_call family nodes_rz.now elements.now element_indices.now reference_points.now) material_ids.now material_table.now pairs_given pairs.now room) tt }
+// The questions of stress, in order.
+// Kept: each operator asks its own questions in order, as its contract lists them; a function for all three would need each list handed in, and is no plainer.
+#[tactic(auto, using(crate::proofs::Parts::stress_parts))]
+pub fn stress_questions(call: &StressCall, room: bool) -> Result<(), Refusal>
+    ensures { (lent : TripletLists) → room ≡ triplet_room lent (8 * nodes_of call.now.base.mesh.family * length call.now.base.element_indices) →
+        outcome result ≡ asked (stress_questions call.now lent) tt }
 {
-    let v = mesh_questions(
-        family,
-        nodes_rz,
-        elements,
-        element_indices,
-        reference_points,
-    );
-    let holds = materials_whole(material_table.len(), pairs_given, pairs.len());
-    let v = asking::then(v, holds, 6, 0);
-    let v = asking::then(v, room, 7, 0);
-    let v = number_questions(
-        v,
-        family,
-        nodes_rz,
-        elements,
-        element_indices,
-        reference_points,
-    );
-    let count = elements.len() / elements::nodes_per_element(family);
-    let v = asking::then(v, material_ids.len() == count, 12, 0);
-    asking::then(v, pairs_match(pairs_given, pairs.len(), count), 13, 0)
-}
-
-pub fn stress_questions(
-    family: usize,
-    nodes_rz: &[f64],
-    elements: &[u32],
-    element_indices: &[usize],
-    reference_points: &[f64],
-    formulation: Structural2dFormulation,
-    material_ids: &[usize],
-    material_table: &[f64],
-    pairs_given: bool,
-    pairs: &[f64],
-    room: bool,
-) -> Verdict
-    ensures { (lent : TripletLists) → room ≡ triplet_room lent (8 * nodes_of family * length element_indices.now) →
-        verdict_outcome result ≡ asked (stress_questions (stress_call (interpolation_call family nodes_rz.now elements.now element_indices.now reference_points.now) formulation material_ids.now material_table.now pairs_given pairs.now) lent) tt }
-{
-    let v = material_questions(
-        family,
-        nodes_rz,
-        elements,
-        element_indices,
-        reference_points,
-        material_ids,
-        material_table,
-        pairs_given,
-        pairs,
-        room,
-    );
-    if let Verdict::Refused { .. } = v {
-        return v;
-    }
-    point_questions::stress_point_questions(
-        family,
-        nodes_rz,
-        elements,
-        element_indices,
-        reference_points,
-        formulation,
-        material_ids,
-        material_table,
-    )
+    mesh_questions(call.base())?;
+    material_question(call)?;
+    asking::ask(room, QuestionKind::Room, 0)?;
+    number_questions(call.base())?;
+    element_questions(call)?;
+    point_questions::stress_point_questions(call)
 }

@@ -2,15 +2,14 @@
 // The first 23,595 bytes of a file decide its listing (`listing_prefix` in crates/job/proofs), and the buffer holds more, so every file is answered as if it had been read whole.
 #![tactic(auto)]
 
-use definition::JobAnswer;
 use std::io;
 use std::io::Write;
 
 fn main(rt: HostRuntime) -> io::Result<()> {
     let mut space = [0u8; 65536];
     let n = reading::read_full(&rt, &mut space)?;
-    let mut out = [0u8; 30738];
-    if let JobAnswer::Listed { bytes } = job::answer_job(&space[..n], &mut out) {
+    let mut out = [0u8; job::LONGEST_LISTING];
+    if let Ok(bytes) = job::answer_job(&space[..n], &mut out) {
         io::writer(&rt).write_all(&out[..bytes])?;
     }
     Ok(())

@@ -1,4 +1,3 @@
 -- Laws that the proofs share.
-mod Filling
-mod Room
-mod Promised
+pub mod Filling
+pub mod Promised

@@ -1,9 +1,24 @@
--- The parameters of a query as the definition's records, and how many points an outcome of its questions lets be answered.
-use Rattle.std.specs.Prelude.{ℕ}
-use Rattle.definition.specs.Questions.{Outcome, accepted, refused}
-pub use Rattle.query.specs.Filled.{call, lists}
+-- The parameters of a query as the definition's records, for callers that hold its lists apart.
+use Rattle.std.specs.Prelude.{List, ℕ, Float}
+use Rattle.definition.specs.Query.{QueryCall, QueryLists}
 
--- n points after an acceptance, and none after a refusal
-abbrev pub allowed : Outcome (Unit {0}) → ℕ → ℕ
-allowed (accepted v) n = n
-allowed (refused number place) n = 0
+abbrev pub call : ℕ → ℕ → List Float → List ℕ → List Float → QueryCall
+call family iterations nodes elements points = record { mesh = record { family = family; nodes = nodes; elements = elements }; iterations = iterations; points = points }
+
+-- the lists in the order of `QuadMeshQueryResult`
+abbrev pub lists : List ℕ → List Float → List Float → List ℕ → List Float → List Float → List Float → List ℕ → List ℕ → List Float → List Float → List Float → QueryLists
+lists nodes node_points node_distances elements references element_points element_distances face_elements faces coordinates face_points face_distances =
+    record {
+      node_indices = nodes;
+      node_points = node_points;
+      node_distances = node_distances;
+      element_indices = elements;
+      element_references = references;
+      element_points = element_points;
+      element_distances = element_distances;
+      face_element_indices = face_elements;
+      face_local_faces = faces;
+      face_coordinates = coordinates;
+      face_points = face_points;
+      face_distances = face_distances;
+    }

@@ -13,12 +13,12 @@ pub fn read_full(rt: &impl Input, buf: &mut [u8]) -> io::Result<usize>
 {
     let mut reader = rt.reader();
     let mut n = 0;
+    // Kept: read_exact loses the count where the input ends early, read_to_end fills a list on the heap, and io::copy promises no bound on its count.
     while n < buf.len() {
-        let more = reader.read(&mut buf[n..])?;
-        if more == 0 {
-            break;
+        match reader.read(&mut buf[n..])? {
+            0 => break,
+            more => n += more,
         }
-        n += more;
     }
     Ok(n)
 }

@@ -9,7 +9,7 @@ use lib.ListN.{length, get_or}
 use Rattle.definition.specs.Elements.{nodes_of}
 use Rattle.definition.specs.Job.{Mark, head, node, element, point, unknown, Job, mark_at, record_bytes, little, pair_bits, row_of, taken, family_read, record_questions}
 use Rattle.definition.proofs.Lists.{each_same}
-use Rattle.records.proofs.Walking.{nodes_few}
+use Rattle.records.proofs.Marks.{nodes_few}
 
 pub record_most : (m : Mark) (family : ℕ) → record_bytes m family ≤ 38
 unfolding record_bytes

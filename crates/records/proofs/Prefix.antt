@@ -10,10 +10,10 @@ use lib.ListN.{length, get_or, take}
 use lib.Seq.{take_all, get_or-take, length-take-le}
 use Rattle.definition.specs.Questions.{Outcome, accepted, refused, ask, asked}
 use Rattle.definition.specs.Job.{Job, empty_job, mark_at, record_bytes, taken, within_limits, record_questions, read_from, read_job}
-use Rattle.records.proofs.Walking.{record_some}
+use Rattle.records.proofs.Marks.{record_some, start_within}
 use Rattle.records.proofs.Turns.{read_passed, read_refused, read_ended}
 use Rattle.records.proofs.Agreeing.{mark_same, taken_same, questions_agree}
-use Rattle.records.proofs.Spending.{Spent, spent_start, start_within, spent_most, spent_on}
+use Rattle.records.proofs.Spending.{Spent, spent_start, spent_most, spent_on}
 
 -- what a record that is asked about comes to
 abbrev turn : List ℕ → ℕ → ℕ → Job → Outcome Job

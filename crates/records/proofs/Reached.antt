@@ -1,103 +1,126 @@
--- Where the walk stands, what is left to read comes to the job's answer: so it is at the start, so it stays with each record that passes, and so the answer is known where the walk ends. Assumes nothing.
-use mathlib.Core.Path.{◌≡◌, refl, sym, ◌∙◌}
-use mathlib.Core.Bool.{true, beq}
-use mathlib.Core.List.{List, [], ◌∷◌}
-use Prim.Native.Nat.{ℕ, zero, suc, ◌+◌, ◌-◌, ◌≤◌, ◌<◌}
-use native.Mathlib.Numerals.{add-one}
-use native.Mathlib.Omega.{arith}
-use borrow.Author.Tests.{leb-true}
-use lib.Dec.{ltb, eqb}
-use lib.ListN.{length}
-use Rattle.definition.specs.Questions.{accepted, refused, ask, asked, onward, is_family}
-use Rattle.definition.specs.Job.{Mark, head, node, element, point, unknown, is_known, is_head, Job, empty_job, mark_at, record_bytes, record_questions, taken, read_from, read_job}
+-- Where the reading stands, what is left to read comes to the job's answer: so it is at the start, so it stays with each record that passes, and so the answer is known where the bytes end. Assumes nothing.
+use Rattle.std.proofs.Common.{◌≡◌, refl, sym, ◌∙◌, Bool, true, false, List, [], ◌∷◌, ℕ, zero, suc, ◌+◌, ◌-◌, ◌≤◌, ◌<◌, ltb, eqb, length, add-one, arith}
+use Rattle.std.specs.Bool.{beq}
+use borrow.Author.Tests.{leb-true, eqb-true, ltb-true}
+use Rattle.definition.specs.Questions.{Question, accepted, refused, ask, asked, is_family}
+use Rattle.definition.specs.Job.{Mark, head, node, element, point, unknown, is_known, is_head, Job, empty_job, mark_at, record_bytes, record_questions, taken, family_read, within_limits, read_from, read_job}
 use Rattle.definition.proofs.Lists.{and_parts}
 use Rattle.definition.proofs.Passing.{passes, asked_accepted, asked_value}
-use Rattle.records.specs.declared.Walk.{Walk}
-use Rattle.records.specs.Reading.{Standing, walked, within, family_passes, walk_questions}
-use Rattle.records.proofs.Walking.{Counted, counted_next, within_bounds, walked_at, walked_index, record_some, questions_same}
+use Rattle.records.proofs.Marks.{record_some, limits_bound, start_within, room_is}
 use Rattle.records.proofs.Turns.{read_passed, read_refused, read_ended}
+use Rattle.records.specs.Reading.{room_for, Bounded}
 
 -- ---- what a record that passes shows
 
-pub record Ready (m : Mark) (bytes : List ℕ) (w : Walk) : Type 0 where
-  pub placed : beq (is_head m) (eqb w.index 0) ≡ true
-  pub whole : w.at + record_bytes m w.family ≤ length bytes
-  pub named : family_passes m (walked m bytes w).family ≡ true
-  pub fits : within (walked m bytes w) ≡ true
+pub record Ready (bytes : List ℕ) (at index : ℕ) (j : Job) : Type 0 where
+  pub placed : beq (is_head (mark_at bytes at)) (eqb index 0) ≡ true
+  pub whole : at + record_bytes (mark_at bytes at) j.family ≤ length bytes
+  pub named : family_read (mark_at bytes at) bytes at ≡ true
+  pub fits : within_limits (taken (mark_at bytes at) bytes at j) ≡ true
 
-pub ready : (m : Mark) (bytes : List ℕ) (w : Walk) → accepted tt ≡ asked (walk_questions m bytes w) (tt {0}) → Ready m bytes w
-unfolding passes walk_questions
-ready m bytes w h =
-    let (placed, rest) = and_parts _ _ (and_parts (is_known m) _ (asked_accepted (walk_questions m bytes w) (sym h)).0).1 in
+pub ready : {bytes : List ℕ} {at index : ℕ} {j : Job} → accepted tt ≡ asked (record_questions bytes at index j) (tt {0}) → Ready bytes at index j
+unfolding passes record_questions
+ready {bytes} {at} {index} {j} h =
+    let (placed, rest) = and_parts _ _ (and_parts (is_known (mark_at bytes at)) _ (asked_accepted (record_questions bytes at index j) (sym h)).0).1 in
     let (whole, more) = and_parts _ _ rest in
     let (named, last) = and_parts _ _ more in
     record { placed = placed; whole = leb-true _ _ whole; named = named; fits = (and_parts _ _ last).0 }
 
+-- a question that passes holds
+pub held : (number place : ℕ) {b : Bool} → accepted tt ≡ asked (ask number place b ∷ []) (tt {0}) → b ≡ true
+unfolding passes
+held number place {b} h = (and_parts b _ (asked_accepted (ask number place b ∷ []) (sym h)).0).0
+
+-- the QF is the first record
+pub head_first : {first : Bool} (index : ℕ) → beq first (eqb index 0) ≡ true → first ≡ true → index ≡ 0
+head_first {first} index h e = eqb-true index 0 (by (eqb index 0) (rw e at h))
+  where
+    by : (b : Bool) → beq true b ≡ true → b ≡ true
+    by true q = refl
+    by false q = q
+
 -- after the first record there is a family
-later : (n : ℕ) → beq (is_head node) (eqb n 0) ≡ true → 0 < n
+later : (n : ℕ) → beq false (eqb n 0) ≡ true → 0 < n
 later zero h = let z : ◌≡◌ {A = ℕ} 0 1 = cc in omega arith
 later (suc n) h = omega arith
 
-family_next : (m : Mark) (bytes : List ℕ) (w : Walk) → (0 < w.index → is_family w.family ≡ true) → beq (is_head m) (eqb w.index 0) ≡ true → family_passes m (walked m bytes w).family ≡ true → is_family (walked m bytes w).family ≡ true
-unfolding walked
-family_next head bytes w known placed named = named
-family_next node bytes w known placed named = known (later w.index placed)
-family_next element bytes w known placed named = known (later w.index placed)
-family_next point bytes w known placed named = known (later w.index placed)
-family_next unknown bytes w known placed named = known (later w.index placed)
-
-standing_next : (m : Mark) {bytes : List ℕ} {w : Walk} → Standing bytes w → Ready m bytes w → (walked m bytes w).iterations < 65536 → Standing bytes (walked m bytes w)
-standing_next m {bytes} {w} s r few =
-    let (nodes, elements, points) = within_bounds (walked m bytes w) r.fits in
-    record {
-      inside = rw (walked_at m bytes w) r.whole;
-      slow = rw (walked_at m bytes w, walked_index m bytes w) (omega (arith, record_some m w.family, s.slow));
-      nodes = nodes;
-      elements = elements;
-      points = points;
-      iterations = few;
-      family = λ h. family_next m bytes w s.family r.placed r.named;
-    }
+family_next : (m : Mark) (bytes : List ℕ) (at index : ℕ) (j : Job) → (0 < index → is_family j.family ≡ true) → beq (is_head m) (eqb index 0) ≡ true → family_read m bytes at ≡ true → is_family (taken m bytes at j).family ≡ true
+unfolding taken
+family_next head bytes at index j known placed named = named
+family_next node bytes at index j known placed named = known (later index placed)
+family_next element bytes at index j known placed named = known (later index placed)
+family_next point bytes at index j known placed named = known (later index placed)
+family_next unknown bytes at index j known placed named = known (later index placed)
 
 -- ---- what is left to read
 
-pub record Reached (bytes : List ℕ) (w : Walk) (j : Job) : Type 0 where
-  pub standing : Standing bytes w
-  pub counted : Counted w j
-  pub same : read_from (length bytes - w.index) bytes w.at w.index j ≡ read_job bytes
+pub record Reached (bytes : List ℕ) (at index : ℕ) (j : Job) : Type 0 where
+  pub inside : at ≤ length bytes
+  pub slow : index ≤ at
+  pub start : index ≡ 0 → j ≡ empty_job
+  pub limits : within_limits j ≡ true
+  pub family : 0 < index → is_family j.family ≡ true
+  pub iterations : j.iterations < 65536
+  pub same : read_from (length bytes - index) bytes at index j ≡ read_job bytes
 
-pub reached_start : (bytes : List ℕ) → Reached bytes (record { at = 0; index = 0; family = 0; iterations = 0; node_values = 0; element_values = 0; point_values = 0 }) empty_job
+pub reached_start : (bytes : List ℕ) → Reached bytes 0 0 empty_job
 unfolding read_job
 reached_start bytes =
     record {
-      standing = record { inside = omega arith; slow = omega arith; nodes = omega arith; elements = omega arith; points = omega arith; iterations = omega arith; family = λ h. absurd (omega arith) };
-      counted = record { family = refl; nodes = refl; elements = refl; points = refl };
+      inside = omega arith;
+      slow = omega arith;
+      start = λ h. refl;
+      limits = start_within;
+      family = λ h. absurd (omega arith);
+      iterations = omega arith;
       same = let e : length bytes - 0 ≡ length bytes = omega arith in rw e;
     }
 
--- with m the mark at the walk's place
-module _ {bytes : List ℕ} {w : Walk} {j : Job} (r : Reached bytes w j) {m : Mark} (q : m ≡ mark_at bytes w.at) where
-  -- its questions hold, or do not, whatever value they are asked for
-  asked_record : {A : Type 0} (v : A) → asked (record_questions bytes w.at w.index j) v ≡ onward (asked (walk_questions m bytes w) (tt {0})) (accepted v)
-  asked_record v = rw (questions_same bytes r.counted, ← q) (asked_value (walk_questions m bytes w) v)
+-- questions hold, or do not, whatever value they are asked for
+passed_with : {A : Type 0} (qs : List Question) (v : A) → accepted tt ≡ asked qs (tt {0}) → asked qs v ≡ accepted v
+passed_with qs v h = asked_value qs v ∙ rw (← h)
 
-  fuel : w.at < length bytes → length bytes - w.index ≡ suc (length bytes - suc w.index)
-  fuel l = omega (arith, r.standing.slow)
+refused_with : {A : Type 0} (qs : List Question) (v : A) {number place : ℕ} → refused number place ≡ asked qs (tt {0}) → asked qs v ≡ refused number place
+refused_with qs v h = asked_value qs v ∙ rw (← h)
 
-  pub reached_next : w.at < length bytes → accepted tt ≡ asked (walk_questions m bytes w) (tt {0}) → (walked m bytes w).iterations < 65536 → Reached bytes (walked m bytes w) (taken m bytes w.at j)
+module _ {bytes : List ℕ} {at index : ℕ} {j : Job} (r : Reached bytes at index j) where
+  fuel : at < length bytes → length bytes - index ≡ suc (length bytes - suc index)
+  fuel l = omega (arith, r.slow)
+
+  pub reached_next : at < length bytes → accepted tt ≡ asked (record_questions bytes at index j) (tt {0}) → (taken (mark_at bytes at) bytes at j).iterations < 65536 → Reached bytes (at + record_bytes (mark_at bytes at) j.family) (index + 1) (taken (mark_at bytes at) bytes at j)
   reached_next l h few =
-      let accepts : asked (record_questions bytes w.at w.index j) (taken (mark_at bytes w.at) bytes w.at j) ≡ accepted (taken m bytes w.at j) = rw (← q) (asked_record (taken m bytes w.at j) ∙ rw (← h)) in
-      let turn = rw (← q) at (read_passed bytes w.at w.index j (length bytes - suc w.index) l accepts) in
+      let m = mark_at bytes at in
+      let shows = ready h in
+      let accepts : asked (record_questions bytes at index j) (taken m bytes at j) ≡ accepted (taken m bytes at j) = passed_with (record_questions bytes at index j) (taken m bytes at j) h in
       record {
-        standing = standing_next m r.standing (ready m bytes w h) few;
-        counted = counted_next m bytes r.counted;
-        same = rw (walked_at m bytes w, walked_index m bytes w, add-one, ← r.counted.family) (sym turn ∙ rw (← fuel l) r.same);
+        inside = shows.whole;
+        slow = omega (arith, record_some m j.family, r.slow);
+        start = λ e. absurd (omega arith);
+        limits = shows.fits;
+        family = λ e. family_next m bytes at index j r.family shows.placed shows.named;
+        iterations = few;
+        same = rw add-one (sym (read_passed bytes at index j (length bytes - suc index) l accepts) ∙ rw (← fuel l) r.same);
       }
 
-  pub reached_refused : {number place : ℕ} → w.at < length bytes → refused number place ≡ asked (walk_questions m bytes w) (tt {0}) → refused number place ≡ read_job bytes
-  reached_refused {number} {place} l h =
-      let refuses : asked (record_questions bytes w.at w.index j) (taken (mark_at bytes w.at) bytes w.at j) ≡ refused number place = asked_record (taken (mark_at bytes w.at) bytes w.at j) ∙ rw (← h) in
-      sym (read_refused bytes w.at w.index j (length bytes - suc w.index) l refuses) ∙ rw (← fuel l) r.same
+  pub reached_refused : {number place : ℕ} → at < length bytes → refused number place ≡ asked (record_questions bytes at index j) (tt {0}) → refused number place ≡ read_job bytes
+  reached_refused l h =
+      sym (read_refused bytes at index j (length bytes - suc index) l (refused_with (record_questions bytes at index j) (taken (mark_at bytes at) bytes at j) h)) ∙ rw (← fuel l) r.same
 
-pub reached_end : {bytes : List ℕ} {w : Walk} {j : Job} → Reached bytes w j → length bytes ≤ w.at → asked (ask 19 0 (ltb 0 w.index) ∷ []) j ≡ read_job bytes
-reached_end {bytes} {w} {j} r h = sym (read_ended bytes w.at w.index j (length bytes - w.index) h) ∙ r.same
+  -- there is room for a record that passes
+  pub reached_room : accepted tt ≡ asked (record_questions bytes at index j) (tt {0}) → room_for (mark_at bytes at) j ≡ true
+  reached_room h = let shows = ready h in room_is (mark_at bytes at) bytes at j r.limits (λ e. r.start (head_first index shows.placed e)) ∙ shows.fits
+
+  -- past the last byte only question 19 is left
+  ended : length bytes ≤ at → asked (ask 19 0 (ltb 0 index) ∷ []) j ≡ read_job bytes
+  ended h = sym (read_ended bytes at index j (length bytes - index) h) ∙ r.same
+
+  pub reached_end : length bytes ≤ at → accepted tt ≡ asked (ask 19 0 (ltb 0 index) ∷ []) (tt {0}) → accepted j ≡ read_job bytes
+  reached_end l h = sym (passed_with (ask 19 0 (ltb 0 index) ∷ []) j h) ∙ ended l
+
+  pub reached_none : {number place : ℕ} → length bytes ≤ at → refused number place ≡ asked (ask 19 0 (ltb 0 index) ∷ []) (tt {0}) → refused number place ≡ read_job bytes
+  reached_none l h = sym (refused_with (ask 19 0 (ltb 0 index) ∷ []) j h) ∙ ended l
+
+  pub reached_bounds : accepted tt ≡ asked (ask 19 0 (ltb 0 index) ∷ []) (tt {0}) → Bounded j
+  reached_bounds h =
+      let (nodes, elements, points) = limits_bound j r.limits in
+      record { family = r.family (ltb-true 0 index (held 19 0 h)); iterations = r.iterations; nodes = nodes; elements = elements; points = points }

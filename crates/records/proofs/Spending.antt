@@ -6,7 +6,7 @@ use mathlib.Core.List.{List}
 use Prim.Native.Nat.{ℕ, suc, ◌+◌, ◌*◌, ◌≤◌}
 use native.Mathlib.Nat.{mul-suc}
 use native.Mathlib.Omega.{arith}
-use borrow.Author.Tests.{leb-true, eqb-true}
+use borrow.Author.Tests.{leb-true}
 use lib.Dec.{leb, eqb}
 use lib.ListN.{length}
 use Rattle.definition.specs.Elements.{nodes_of}
@@ -14,7 +14,8 @@ use Rattle.definition.specs.Questions.{accepted, asked}
 use Rattle.definition.specs.Job.{Mark, head, node, element, point, unknown, is_known, is_head, Job, empty_job, mark_at, record_bytes, taken, family_read, within_limits, record_questions}
 use Rattle.definition.proofs.Lists.{and_parts}
 use Rattle.definition.proofs.Passing.{passes, asked_accepted}
-use Rattle.records.proofs.Walking.{pair_length, row_length}
+use Rattle.records.proofs.Marks.{pair_length, row_length}
+use Rattle.records.proofs.Reached.{head_first}
 
 pub record Spent (at index : ℕ) (j : Job) : Type 0 where
   pub slow : index ≤ at
@@ -51,21 +52,10 @@ spent_most {at} {index} {j} s h =
 pub spent_start : Spent 0 0 empty_job
 spent_start = record { slow = omega arith; start = λ e. (refl, refl); count = 0; rows = omega arith; bytes = omega arith }
 
-pub start_within : within_limits empty_job ≡ true
-unfolding nodes_of
-start_within = refl
-
-first : (n : ℕ) → beq (is_head head) (eqb n 0) ≡ true → n ≡ 0
-first n h = eqb-true n 0 (by (eqb n 0) h)
-  where
-    by : (b : Bool) → beq true b ≡ true → b ≡ true
-    by true e = refl
-    by false e = e
-
 spent_next : (m : Mark) (bytes : List ℕ) {at index : ℕ} {j : Job} → Spent at index j → is_known m ≡ true → beq (is_head m) (eqb index 0) ≡ true → Spent (at + record_bytes m j.family) (suc index) (taken m bytes at j)
 unfolding record_bytes taken
 spent_next head bytes {at} {index} s known placed =
-    let (none, empty) = s.start (first index placed) in
+    let (none, empty) = s.start (head_first index placed refl) in
     record { slow = omega (arith, s.slow); start = λ e. absurd (omega arith); count = 0; rows = omega arith; bytes = omega arith }
 spent_next node bytes {at} {index} {j} s known placed =
     record { slow = omega (arith, s.slow); start = λ e. absurd (omega arith); count = s.count; rows = s.rows; bytes = rw (pair_length bytes (at + 2) j.nodes) (omega (arith, s.bytes)) }

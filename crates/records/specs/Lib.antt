@@ -1,2 +1,2 @@
--- What the walk over a job's records holds, and what the answer says, in the definition's words.
+-- The kind of a record, the room that it needs, and what is known of a job that was read, in the definition's words.
 pub mod Reading

@@ -1,32 +1,22 @@
-// The records of a job file: from a job's bytes to its numbers in three lists. It knows the definition and the families: no mesh, no query and no listing.
+// The records of a job file: from a job's bytes to the job. It knows the definition, the families and how a question is put: no mesh, no query and no listing.
 // Floats stay bits. Every call has an answer for every list of bytes.
 #![tactic(auto)]
 
-ghost use Rattle.std.specs.Prelude.{◌≡◌, true, ◌++◌, ◌+◌, ◌*◌, ◌≤◌, ◌<◌, length, take};
-ghost use Rattle.definition.specs.Questions.{refused, asked, verdict_outcome};
-ghost use Rattle.definition.specs.Job.{mark_of, mark_at, is_known, is_head, record_bytes, little, pair_bits, row_of, taken, read_job};
-ghost use Rattle.records.specs.Reading.{mark_for, family_passes, Standing, walked, within, walk_questions, so_far, read_outcome, Bounded};
+ghost use Rattle.std.specs.Prelude.{◌≡◌, true, ◌++◌, ◌+◌, ◌*◌, ◌≤◌, ◌<◌, length, slice_range, IfOk};
+ghost use Rattle.definition.specs.Questions.{asked, outcome};
+ghost use Rattle.definition.specs.Job.{mark_at, is_known, is_head, family_read, record_bytes, pair_bits, row_of, taken, within_limits, record_questions, empty_job, read_job};
+ghost use Rattle.arrayvec.specs.ArrayVec.{array_vec_len};
+ghost use Rattle.records.specs.Reading.{mark_for, room_for, Bounded};
 
-use definition::Verdict;
+use arrayvec::ArrayVec;
+use asking::ask;
+use definition::{QuestionKind, Refusal};
+use std::marker::Model;
 
-// What a job's bytes are read as: its family, its iterations and how many values stand in each list, two a node, F an element and two a point; or the question that was answered no, and the record's index.
-#[derive(Clone, Copy)]
-pub enum ReadAnswer {
-    Read {
-        family: usize,
-        iterations: usize,
-        node_values: usize,
-        element_values: usize,
-        point_values: usize,
-    },
-    Refused {
-        question: u8,
-        place: usize,
-    },
-}
+// ---- one record
 
 // The kind of a record, by its mark: QF, QN, QE, QP, and any other.
-#[derive(Clone, Copy)]
+#[derive(Clone, Copy, PartialEq, Eq)]
 enum Kind {
     Head,
     Node,
@@ -35,313 +25,246 @@ enum Kind {
     Unknown,
 }
 
-// The walk over the records: the place and the index of the next record, and what the records before it gave. It counts values, so that the lists themselves are only written.
-#[derive(Clone, Copy)]
-struct Walk {
+// The record at a place of a job's bytes.
+#[derive(Drop)]
+struct Record<'a> {
+    bytes: &'a [u8],
     at: usize,
-    index: usize,
-    family: usize,
-    iterations: usize,
-    node_values: usize,
-    element_values: usize,
-    point_values: usize,
-}
-
-// ---- numbers, the least byte first
-
-// A byte as a number.
-fn wide(b: u8) -> u64
-    ensures value { result ≡ b }
-    ensures upper_bound { result < 256 }
-{
-    b as u64
-}
-
-// The number of two bytes from a place on.
-fn number2(bytes: &[u8], at: usize) -> u64
-    requires { at + 2 ≤ length bytes.now }
-    ensures value { result ≡ little bytes.now at 2 }
-    ensures upper_bound { result < 65536 }
-{
-    let low = wide(bytes[at]);
-    let high = wide(bytes[at + 1]);
-    low + 256 * high
-}
-
-// The number of four bytes from a place on.
-fn number4(bytes: &[u8], at: usize) -> u64
-    requires { at + 4 ≤ length bytes.now }
-    ensures value { result ≡ little bytes.now at 4 }
-    ensures upper_bound { result < 4294967296 }
-{
-    let low = number2(bytes, at);
-    let high = number2(bytes, at + 2);
-    low + 65536 * high
-}
-
-// The number of eight bytes from a place on.
-fn number8(bytes: &[u8], at: usize) -> u64
-    requires { at + 8 ≤ length bytes.now }
-    ensures { result ≡ little bytes.now at 8 }
-{
-    let low = number4(bytes, at);
-    let high = number4(bytes, at + 4);
-    low + 4294967296 * high
-}
-
-// ---- one record
-
-// The kind for the letter after the Q.
-fn kind_of(letter: u8) -> Kind
-    ensures { mark_for result ≡ mark_of 81 letter }
-{
-    if letter == b'F' {
-        return Kind::Head;
-    }
-    if letter == b'N' {
-        return Kind::Node;
-    }
-    if letter == b'E' {
-        return Kind::Element;
-    }
-    if letter == b'P' {
-        return Kind::Point;
-    }
-    Kind::Unknown
-}
-
-// The kind of the record at a place. A mark of one byte is not whole, and so unknown.
-fn kind_at(bytes: &[u8], at: usize) -> Kind
-    requires { at ≤ length bytes.now }
-    ensures { mark_for result ≡ mark_at bytes.now at }
-{
-    if bytes.len() - at < 2 {
-        return Kind::Unknown;
-    }
-    if bytes[at] == b'Q' {
-        return kind_of(bytes[at + 1]);
-    }
-    Kind::Unknown
-}
-
-// Whether a mark is known.
-fn is_known(kind: Kind) -> bool
-    ensures { result ≡ is_known (mark_for kind) }
-{
-    match kind {
-        Kind::Head => true,
-        Kind::Node => true,
-        Kind::Element => true,
-        Kind::Point => true,
-        Kind::Unknown => false,
-    }
-}
-
-// Whether a mark is QF.
-fn is_head(kind: Kind) -> bool
-    ensures { result ≡ is_head (mark_for kind) }
-{
-    match kind {
-        Kind::Head => true,
-        Kind::Node => false,
-        Kind::Element => false,
-        Kind::Point => false,
-        Kind::Unknown => false,
-    }
-}
-
-// The bytes of a record, its mark among them. The bounds say that the walk goes on, and that its next place fits.
-fn record_bytes(kind: Kind, family: usize) -> usize
-    ensures value { result ≡ record_bytes (mark_for kind) family }
-    ensures lower_bound { (2 ≤ result) × (result ≤ 38) }
-{
-    match kind {
-        Kind::Head => 5,
-        Kind::Node => 18,
-        Kind::Element => 2 + 4 * elements::nodes_per_element(family),
-        Kind::Point => 18,
-        Kind::Unknown => 2,
-    }
-}
-
-// The walk after the record at its place, which is whole. Nothing is stored yet, so that question 21 can be asked first.
-fn walk_after(bytes: &[u8], walk: Walk, kind: Kind) -> Walk
-    requires { Standing bytes.now walk × (walk.at + record_bytes (mark_for kind) walk.family ≤ length bytes.now) }
-    ensures value { result ≡ walked (mark_for kind) bytes.now walk }
-    ensures iterations_bound { result.iterations < 65536 }
-{
-    let mut next = walk;
-    let at = walk.at;
-    next.at = at + record_bytes(kind, walk.family);
-    next.index = walk.index + 1;
-    match kind {
-        Kind::Head => {
-            next.family = bytes[at + 2] as usize;
-            next.iterations = number2(bytes, at + 3) as usize;
-        }
-        Kind::Node => next.node_values = walk.node_values + 2,
-        Kind::Element => next.element_values = walk.element_values
-            + elements::nodes_per_element(walk.family),
-        Kind::Point => next.point_values = walk.point_values + 2,
-        Kind::Unknown => {}
-    }
-    next
-}
-
-// ---- the questions of a record
-
-// Whether a QF names a family, 4 or 9. The other kinds name none.
-fn family_read(kind: Kind, family: usize) -> bool
-    ensures { result ≡ family_passes (mark_for kind) family }
-{
-    if is_head(kind) {
-        elements::is_family(family)
-    } else {
-        true
-    }
-}
-
-// Whether there are at most 512 nodes, 256 elements and 256 points.
-fn is_within(walk: Walk) -> bool
-    ensures { result ≡ within walk }
-{
-    if walk.node_values <= 1024 {
-        if walk.element_values <= elements::nodes_per_element(walk.family) * 256 {
-            return walk.point_values <= 512;
-        }
-    }
-    false
-}
-
-// The verdict where a question is answered no.
-fn refusal(question: u8, place: usize) -> Verdict
-    ensures { verdict_outcome result ≡ refused question place }
-{
-    Verdict::Refused { question, place }
-}
-
-// Questions 18, 19, 20, 1 and 21 of the record at the walk's place, in this order.
-fn record_verdict(bytes: &[u8], walk: Walk, kind: Kind) -> Verdict
-    requires { Standing bytes.now walk }
-    ensures { verdict_outcome result ≡ asked (walk_questions (mark_for kind) bytes.now walk) tt }
-{
-    let place = walk.index;
-    if !is_known(kind) {
-        return refusal(18, place);
-    }
-    if is_head(kind) != (walk.index == 0) {
-        return refusal(19, place);
-    }
-    if bytes.len() - walk.at < record_bytes(kind, walk.family) {
-        return refusal(20, place);
-    }
-    let next = walk_after(bytes, walk, kind);
-    if !family_read(kind, next.family) {
-        return refusal(1, place);
-    }
-    if !is_within(next) {
-        return refusal(21, place);
-    }
-    Verdict::Passed
-}
-
-// ---- the lists
-
-// Two floats' bits from a place on, at the next two places of a list.
-fn store_pair(bytes: &[u8], at: usize, list: &mut [u64], next: usize)
-    requires { (at + 16 ≤ length bytes.now) × (next + 2 ≤ length list.old) }
-    ensures { take (next + 2) list.new ≡ take next list.old ++ pair_bits bytes.now at }
-{
-    let first = number8(bytes, at);
-    let second = number8(bytes, at + 8);
-    list[next] = first;
-    list[next + 1] = second;
-}
-
-// f node numbers from a place on, at the next f places of a list.
-fn store_row(bytes: &[u8], at: usize, f: usize, list: &mut [u32], next: usize)
-    requires { (at + 4 * f ≤ length bytes.now) × (next + f ≤ length list.old) }
-    ensures { take (next + f) list.new ≡ take next list.old ++ row_of bytes.now at f }
-{
-    let mut local_index: usize = 0;
-    while local_index < f {
-        let node = number4(bytes, at + 4 * local_index) as u32;
-        list[next + local_index] = node;
-        local_index += 1;
-    }
-}
-
-// The numbers of a record that has passed its questions, at the next places of its list.
-fn store_record(
-    bytes: &[u8],
-    walk: Walk,
     kind: Kind,
-    nodes: &mut [u64; 1024],
-    elements: &mut [u32; 2304],
-    points: &mut [u64; 512],
-)
-    requires standing { Standing bytes.now walk × (walk.at + record_bytes (mark_for kind) walk.family ≤ length bytes.now) }
-    requires within_limits { within (walked (mark_for kind) bytes.now walk) ≡ true }
-    ensures { so_far (walked (mark_for kind) bytes.now walk) nodes.new elements.new points.new ≡ taken (mark_for kind) bytes.now walk.at (so_far walk nodes.old elements.old points.old) }
-{
-    let body = walk.at + 2;
-    match kind {
-        Kind::Head => {}
-        Kind::Node => store_pair(bytes, body, nodes, walk.node_values),
-        Kind::Element => store_row(
-            bytes,
-            body,
-            elements::nodes_per_element(walk.family),
-            elements,
-            walk.element_values,
-        ),
-        Kind::Point => store_pair(bytes, body, points, walk.point_values),
-        Kind::Unknown => {}
+    ghost inside: { at ≤ length bytes.now },
+    ghost mark: { mark_for kind ≡ mark_at bytes.now at },
+}
+
+impl<'a> Record<'a> {
+    // A mark of one byte is not whole, and so unknown.
+    #[tactic(auto, unfolding(definition::specs::Job::mark_at, definition::specs::Job::mark_of))]
+    fn new(bytes: &'a [u8], at: usize) -> Record<'a>
+        requires { at ≤ length bytes.now }
+        ensures { (result.bytes.now ≡ bytes.now) × (result.at ≡ at) }
+    {
+        let kind = match &bytes[at..] {
+            [b'Q', b'F', ..] => Kind::Head,
+            [b'Q', b'N', ..] => Kind::Node,
+            [b'Q', b'E', ..] => Kind::Element,
+            [b'Q', b'P', ..] => Kind::Point,
+            _ => Kind::Unknown,
+        };
+        Record { bytes, at, kind }
+    }
+
+    fn is_known(&self) -> bool
+        ensures { result ≡ is_known (mark_for self.now.kind) }
+    {
+        self.kind != Kind::Unknown
+    }
+
+    fn is_head(&self) -> bool
+        ensures { result ≡ is_head (mark_for self.now.kind) }
+    {
+        self.kind == Kind::Head
+    }
+
+    // Its bytes, its mark among them.
+    #[tactic(auto, unfolding(definition::specs::Job::record_bytes))]
+    fn size(&self, family: usize) -> usize
+        ensures value { result ≡ record_bytes (mark_for self.now.kind) family }
+        ensures bounds { (2 ≤ result) × (result ≤ 38) }
+    {
+        match self.kind {
+            Kind::Head => 5,
+            Kind::Node | Kind::Point => 18,
+            Kind::Element => 2 + 4 * elements::nodes_per_element(family),
+            Kind::Unknown => 2,
+        }
+    }
+
+    // Whether a QF names a family, 4 or 9. The other kinds name none.
+    fn names_family(&self) -> bool
+        ensures { result ≡ family_read (mark_for self.now.kind) self.now.bytes.now self.now.at }
+    {
+        match self.kind {
+            Kind::Head => elements::is_family(lists::get_or(self.bytes, self.at + 2, 0) as usize),
+            Kind::Node | Kind::Element | Kind::Point | Kind::Unknown => true,
+        }
+    }
+
+    // N of its bytes, from one of them on.
+    fn part<const N: usize>(&self, from: usize) -> [u8; N]
+        requires { self.now.at + from + N ≤ length self.now.bytes.now }
+        ensures { result ≡ slice_range self.now.bytes.now (self.now.at + from) (self.now.at + from + N) }
+    {
+        let start = self.at + from;
+        self.bytes[start..start + N].try_into().unwrap()
+    }
+
+    // Puts its two floats' bits at the end of a list.
+    fn push_pair<const N: usize>(&self, list: &mut ArrayVec<u64, N>)
+        requires room { array_vec_len list.old + 2 ≤ N }
+        requires whole { self.now.at + 18 ≤ length self.now.bytes.now }
+        ensures { list.new.items ≡ list.old.items ++ pair_bits self.now.bytes.now (self.now.at + 2) }
+    {
+        list.push(u64::from_le_bytes(self.part(2)));
+        list.push(u64::from_le_bytes(self.part(10)));
+    }
+
+    // Puts its f node numbers at the end of a list.
+    fn push_row<const N: usize>(&self, f: usize, list: &mut ArrayVec<u32, N>)
+        requires room { array_vec_len list.old + f ≤ N }
+        requires whole { self.now.at + (2 + 4 * f) ≤ length self.now.bytes.now }
+        ensures { list.new.items ≡ list.old.items ++ row_of self.now.bytes.now (self.now.at + 2) f }
+    {
+        for local_index in 0..f {
+            list.push(u32::from_le_bytes(self.part(2 + 4 * local_index)));
+        }
     }
 }
 
 // ---- the job
 
-// A job's bytes, read into three lists whose first values are then the job's: two coordinates' bits a node, F node numbers an element, two coordinates' bits a point.
-// The lists are the caller's scratch: past those values, and after a refusal, what they hold means nothing.
-pub fn read_job(
-    bytes: &[u8],
-    nodes: &mut [u64; 1024],
-    elements: &mut [u32; 2304],
-    points: &mut [u64; 512],
-) -> ReadAnswer
-    ensures outcome { read_outcome result nodes.new elements.new points.new ≡ read_job bytes.now }
-    ensures bounded { Bounded result nodes.new elements.new points.new }
-{
-    let mut walk = Walk {
-        at: 0,
-        index: 0,
-        family: 0,
-        iterations: 0,
-        node_values: 0,
-        element_values: 0,
-        point_values: 0,
-    };
-    while walk.at < bytes.len() {
-        let kind = kind_at(bytes, walk.at);
-        let verdict = record_verdict(bytes, walk, kind);
-        if let Verdict::Refused { question, place } = verdict {
-            return ReadAnswer::Refused { question, place };
+// What a job's bytes are read as: its family, its iterations, two coordinates' bits a node, F node numbers an element and two coordinates' bits a point.
+#[derive(Drop)]
+pub struct Job {
+    family: u8,
+    iterations: u16,
+    nodes: ArrayVec<u64, 1024>,
+    elements: ArrayVec<u32, 2304>,
+    points: ArrayVec<u64, 512>,
+}
+
+// A contract reads a job as the definition's.
+impl Model for Job {
+    ghost use Rattle.definition.specs.Job.{Job as Value'};
+
+    ghost Value = { Value' };
+
+    ghost view = { λ j. record { family = j.family; iterations = j.iterations; nodes = j.nodes.items; elements = j.elements.items; points = j.points.items } };
+}
+
+impl Job {
+    fn new() -> Job
+        ensures { result ≡ empty_job }
+    {
+        Job {
+            family: 0,
+            iterations: 0,
+            nodes: ArrayVec::new(),
+            elements: ArrayVec::new(),
+            points: ArrayVec::new(),
         }
-        store_record(bytes, walk, kind, nodes, elements, points);
-        walk = walk_after(bytes, walk, kind);
     }
-    if walk.index == 0 {
-        return ReadAnswer::Refused {
-            question: 19,
-            place: 0,
-        };
+
+    pub fn family(&self) -> usize
+        ensures { result ≡ self.now.family }
+    {
+        self.family as usize
     }
-    ReadAnswer::Read {
-        family: walk.family,
-        iterations: walk.iterations,
-        node_values: walk.node_values,
-        element_values: walk.element_values,
-        point_values: walk.point_values,
+
+    pub fn iterations(&self) -> usize
+        ensures { result ≡ self.now.iterations }
+    {
+        self.iterations as usize
     }
+
+    pub fn nodes(&self) -> &[u64]
+        ensures value { result.now ≡ self.now.nodes }
+        ensures fits { length result.now ≤ 1024 }
+    {
+        self.nodes.as_slice()
+    }
+
+    pub fn elements(&self) -> &[u32]
+        ensures value { result.now ≡ self.now.elements }
+        ensures fits { length result.now ≤ 2304 }
+    {
+        self.elements.as_slice()
+    }
+
+    pub fn points(&self) -> &[u64]
+        ensures value { result.now ≡ self.now.points }
+        ensures fits { length result.now ≤ 512 }
+    {
+        self.points.as_slice()
+    }
+
+    // Whether there is room for a record of this kind: at most 512 nodes, 256 elements and 256 points.
+    #[tactic(auto, unfolding(definition::specs::Elements::nodes_of))]
+    fn has_room(&self, kind: Kind) -> bool
+        ensures { result ≡ room_for (mark_for kind) self.now }
+    {
+        match kind {
+            Kind::Node => self.nodes.len() + 2 <= 1024,
+            Kind::Element => {
+                let f = elements::nodes_per_element(self.family as usize);
+                self.elements.len() + f <= f * 256
+            }
+            Kind::Point => self.points.len() + 2 <= 512,
+            Kind::Head | Kind::Unknown => true,
+        }
+    }
+
+    // Questions 18, 19, 20, 1 and 21 of the next record, in this order.
+    #[tactic(auto, unfolding(definition::specs::Questions::asked, definition::specs::Job::record_questions))]
+    fn record_questions(&self, next: &Record, index: usize) -> Result<(), Refusal>
+        requires limits { within_limits self.now ≡ true }
+        requires start { index ≡ 0 → self.now ≡ empty_job }
+        ensures { outcome result ≡ asked (record_questions next.now.bytes.now next.now.at index self.now) tt }
+    {
+        let left = next.bytes.len() - next.at;
+        ask(next.is_known(), QuestionKind::MarkKnown, index)?;
+        ask(
+            next.is_head() == (index == 0),
+            QuestionKind::HeadFirst,
+            index,
+        )?;
+        ask(
+            next.size(self.family as usize) <= left,
+            QuestionKind::BodyWhole,
+            index,
+        )?;
+        ask(next.names_family(), QuestionKind::FamilyKnown, index)?;
+        ask(self.has_room(next.kind), QuestionKind::WithinLimits, index)
+    }
+
+    // Takes a record, which has passed its questions.
+    #[tactic(auto, unfolding(definition::specs::Job::record_bytes, definition::specs::Job::taken))]
+    fn take(&mut self, next: &Record)
+        requires whole { next.now.at + record_bytes (mark_for next.now.kind) self.old.family ≤ length next.now.bytes.now }
+        requires room { room_for (mark_for next.now.kind) self.old ≡ true }
+        ensures value { self.new ≡ taken (mark_for next.now.kind) next.now.bytes.now next.now.at self.old }
+        ensures iterations_bound { self.new.iterations < 65536 }
+    {
+        match next.kind {
+            Kind::Head => {
+                self.family = next.bytes[next.at + 2];
+                self.iterations = u16::from_le_bytes(next.part(3));
+            }
+            Kind::Node => next.push_pair(&mut self.nodes),
+            Kind::Element => {
+                let f = elements::nodes_per_element(self.family as usize);
+                next.push_row(f, &mut self.elements)
+            }
+            Kind::Point => next.push_pair(&mut self.points),
+            Kind::Unknown => {}
+        }
+    }
+}
+
+// The job that the bytes are, or the first question that was answered no, with the record's index.
+pub fn read_job(bytes: &[u8]) -> Result<Job, Refusal>
+    ensures outcome { outcome result ≡ read_job bytes.now }
+    ensures bounded { IfOk result Bounded }
+{
+    let mut job = Job::new();
+    let mut at = 0;
+    let mut index = 0;
+    // Kept: the step is a record's own length, which no range gives.
+    while at < bytes.len() {
+        let next = Record::new(bytes, at);
+        job.record_questions(&next, index)?;
+        at += next.size(job.family());
+        job.take(&next);
+        index += 1;
+    }
+    ask(0 < index, QuestionKind::HeadFirst, 0)?;
+    Ok(job)
 }

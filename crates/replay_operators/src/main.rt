@@ -4,427 +4,299 @@
 // The answer: its line; a line for each triplet; and whether every place of the lent lists past the triplets is as it was lent.
 #![tactic(auto)]
 
-ghost use Rattle.std.specs.Prelude.{◌≡◌, ◌≤◌, length};
-
+use arrayvec::ArrayVec;
 use numbers::OperatorNumbers;
-use std::io;
-use std::io::Write;
-
-// The lists of a case, in the order of their counts.
-const NODES_RZ: u8 = 0;
-
-const ELEMENTS: u8 = 1;
-
-const ELEMENT_INDICES: u8 = 2;
-
-const REFERENCE_POINTS: u8 = 3;
-
-const MATERIAL_IDS: u8 = 4;
-
-const MATERIAL_TABLE: u8 = 5;
-
-const PAIRS: u8 = 6;
-
-const ROWS: u8 = 7;
-
-const COLUMNS: u8 = 8;
-
-const VALUES: u8 = 9;
+use std::io::Read;
+use std::{fmt, io};
 
 // What the lent lists are filled with: no row or column is as large, and no stored answer has this value.
 const UNTOUCHED: usize = 4294967295;
 
 const UNTOUCHED_VALUE: f64 = 12345.678;
 
-// ---- the numbers of a case
+// ---- a case and how its bytes are read
 
-// The byte k places after a place, or 0 past the end.
-fn byte_after(case: &[u8; 65536], at: usize, k: usize) -> u8 {
-    if at < 65536 {
-        if k < 65536 - at {
-            return case[at + k];
+// The operators, and which byte names each.
+#[derive(Clone, Copy)]
+enum OperatorKind {
+    Interpolation,
+    Strain,
+    Stress,
+}
+
+impl From<u8> for OperatorKind {
+    fn from(byte: u8) -> Self {
+        match byte {
+            0 => OperatorKind::Interpolation,
+            1 => OperatorKind::Strain,
+            _ => OperatorKind::Stress,
         }
     }
-    0
 }
 
-// The number of `size` bytes from a place on.
-fn number_at(case: &[u8; 65536], at: usize, size: usize) -> u64 {
-    let mut number: u64 = 0;
-    for k in (0..size).rev() {
-        number = (number << 8) | (byte_after(case, at, k) as u64);
+// The bytes of a case that are not read yet. Past the last of them it reads zeros.
+#[derive(Drop)]
+struct Bytes<'a> {
+    rest: &'a [u8],
+}
+
+impl Bytes<'_> {
+    fn next<const N: usize>(&mut self) -> io::Result<[u8; N]> {
+        let mut bytes = [0; N];
+        self.rest.read(&mut bytes)?;
+        Ok(bytes)
     }
-    number
-}
 
-// The float of eight bytes from a place on.
-fn float_at(case: &[u8; 65536], at: usize) -> f64 {
-    binary64::float_of(number_at(case, at, 8))
-}
-
-// The lesser of two numbers.
-fn least(a: usize, b: usize) -> usize
-    ensures { (result ≤ a) × (result ≤ b) }
-{
-    if a < b { a } else { b }
-}
-
-// How many numbers a list has, or how many places there are for them where those are fewer.
-fn count_of(case: &[u8; 65536], list: u8, places: usize) -> usize
-    ensures { result ≤ places }
-{
-    least(
-        number_at(case, 12 + 2 * (list as usize), 2) as usize,
-        places,
-    )
-}
-
-// How many bytes a list takes: four an index, eight a float.
-fn bytes_of(case: &[u8; 65536], list: u8) -> usize
-    ensures { result ≤ 524280 }
-{
-    let count = count_of(case, list, 65535);
-    match list {
-        ELEMENTS | ELEMENT_INDICES | MATERIAL_IDS => 4 * count,
-        _ => 8 * count,
+    // The next list, of `count` numbers: the first 256 of them.
+    fn list<T: Number>(&mut self, count: u16) -> io::Result<ArrayVec<T, 256>> {
+        let mut list = ArrayVec::new();
+        for _ in 0..count {
+            let number = T::read(self)?;
+            if !list.is_full() {
+                list.push(number);
+            }
+        }
+        Ok(list)
     }
 }
 
-// Where a list begins: after the counts and the lists before it, of which a byte counts at most 255.
-fn place_of(case: &[u8; 65536], list: u8) -> usize
-    ensures { result ≤ 200000000 }
-{
-    let mut at = 32;
-    for before in 0..list {
-        at += bytes_of(case, before);
-    }
-    at
+// A number as a case holds it, the least byte first.
+trait Number: Default + Drop {
+    fn read(bytes: &mut Bytes<'_>) -> io::Result<Self>;
 }
 
-// How many nodes an element has.
-fn family_of(case: &[u8; 65536]) -> usize {
-    number_at(case, 1, 1) as usize
-}
-
-// Which strains the case means, in the number of the C interface.
-fn formulation_of(case: &[u8; 65536]) -> usize {
-    number_at(case, 2, 1) as usize
-}
-
-// The thickness of a plane, which no operator reads.
-fn thickness_of(case: &[u8; 65536]) -> f64 {
-    float_at(case, 4)
-}
-
-// ---- the lists of a case, which have at most 256 numbers. What stands past a list's numbers means nothing.
-
-fn floats_of(case: &[u8; 65536], list: u8) -> [f64; 256]
-    ensures { 256 ≡ length result }
-{
-    let mut floats = [0.0; 256];
-    let at = place_of(case, list);
-    for i in 0..256 {
-        floats[i] = float_at(case, at + 8 * i);
-    }
-    floats
-}
-
-fn nodes_of(case: &[u8; 65536], list: u8) -> [u32; 256]
-    ensures { 256 ≡ length result }
-{
-    let mut nodes = [0u32; 256];
-    let at = place_of(case, list);
-    for i in 0..256 {
-        nodes[i] = (number_at(case, at + 4 * i, 4) % 4294967296) as u32;
-    }
-    nodes
-}
-
-fn numbers_of(case: &[u8; 65536], list: u8) -> [usize; 256]
-    ensures { 256 ≡ length result }
-{
-    let mut numbers = [0usize; 256];
-    let at = place_of(case, list);
-    for i in 0..256 {
-        numbers[i] = number_at(case, at + 4 * i, 4) as usize;
-    }
-    numbers
-}
-
-// ---- the text of an answer
-
-fn print_byte(rt: &impl Print, b: u8) -> io::Result<()> {
-    io::writer(rt).write_all(&[b])
-}
-
-// Prints a number in decimal and the byte after it.
-fn print_number(rt: &impl Print, number: usize, end: u8) -> io::Result<()> {
-    print!(rt; "{number}")?;
-    print_byte(rt, end)
-}
-
-// Prints two numbers and the byte after them.
-fn print_pair(rt: &impl Print, first: usize, second: usize, end: u8) -> io::Result<()> {
-    print_number(rt, first, b' ')?;
-    print_number(rt, second, end)
-}
-
-// Prints a float's bits in sixteen hexadecimal digits, or nan.
-fn print_float(rt: &impl Print, x: f64) -> io::Result<()> {
-    if x != x {
-        print!(rt; "nan")
-    } else {
-        let bits = f64::to_bits(x);
-        print!(rt; "{bits:016x}")
+impl Number for u8 {
+    fn read(bytes: &mut Bytes<'_>) -> io::Result<Self> {
+        Ok(u8::from_le_bytes(bytes.next()?))
     }
 }
 
-// Prints the line of an answer, of which question 0 means that it is built.
-fn print_answer(rt: &impl Print, answer: OperatorNumbers) -> io::Result<()> {
-    if answer.question == 0 {
-        print!(rt; "built ")?;
-        print_number(rt, answer.rows, b' ')?;
-        print_pair(rt, answer.columns, answer.triplets, b'\n')
-    } else {
-        print!(rt; "refused ")?;
-        print_pair(rt, answer.question, answer.place, b'\n')
+impl Number for u16 {
+    fn read(bytes: &mut Bytes<'_>) -> io::Result<Self> {
+        Ok(u16::from_le_bytes(bytes.next()?))
     }
 }
 
-// Prints the line of a place that has a triplet; of any other, answers whether it is as it was lent.
-fn print_place(
-    rt: &impl Print,
-    is_triplet: bool,
-    row: usize,
-    column: usize,
-    value: f64,
-) -> io::Result<bool> {
-    if is_triplet {
-        print_pair(rt, row, column, b' ')?;
-        print_float(rt, value)?;
-        print_byte(rt, b'\n')?;
-        return Ok(true);
+impl Number for u32 {
+    fn read(bytes: &mut Bytes<'_>) -> io::Result<Self> {
+        Ok(u32::from_le_bytes(bytes.next()?))
     }
-    Ok(row == UNTOUCHED && column == UNTOUCHED && value == UNTOUCHED_VALUE)
 }
 
-// Prints the places of the three lists, and answers whether all after the triplets are as they were lent.
-fn print_places(
-    rt: &impl Print,
-    triplets: usize,
+// An index has four bytes.
+impl Number for usize {
+    fn read(bytes: &mut Bytes<'_>) -> io::Result<Self> {
+        Ok(u32::read(bytes)? as usize)
+    }
+}
+
+impl Number for f64 {
+    fn read(bytes: &mut Bytes<'_>) -> io::Result<Self> {
+        Ok(binary64::float_of(u64::from_le_bytes(bytes.next()?)))
+    }
+}
+
+// What an operator is given, and how many places of each list it is lent.
+#[derive(Drop)]
+struct Case {
+    operator: OperatorKind,
+    family: u8,
+    formulation: u8,
+    // Kept: a number beside the list of pairs, as the C interface takes them.
+    pairs_given: u8,
+    thickness: f64,
+    nodes_rz: ArrayVec<f64, 256>,
+    elements: ArrayVec<u32, 256>,
+    element_indices: ArrayVec<usize, 256>,
+    reference_points: ArrayVec<f64, 256>,
+    material_ids: ArrayVec<usize, 256>,
+    material_table: ArrayVec<f64, 256>,
+    pairs: ArrayVec<f64, 256>,
+    rows: u16,
+    columns: u16,
+    values: u16,
+}
+
+impl Case {
+    fn parse(case: &[u8]) -> io::Result<Self> {
+        let mut bytes = Bytes { rest: case };
+        let operator = OperatorKind::from(u8::read(&mut bytes)?);
+        let family = u8::read(&mut bytes)?;
+        let formulation = u8::read(&mut bytes)?;
+        let pairs_given = u8::read(&mut bytes)?;
+        let thickness = f64::read(&mut bytes)?;
+        let mut counts = [0; 10];
+        for count in &mut counts {
+            *count = u16::read(&mut bytes)?;
+        }
+        let [
+            nodes_rz,
+            elements,
+            element_indices,
+            reference_points,
+            material_ids,
+            material_table,
+            pairs,
+            rows,
+            columns,
+            values,
+        ] = counts;
+        Ok(Case {
+            operator,
+            family,
+            formulation,
+            pairs_given,
+            thickness,
+            nodes_rz: bytes.list(nodes_rz)?,
+            elements: bytes.list(elements)?,
+            element_indices: bytes.list(element_indices)?,
+            reference_points: bytes.list(reference_points)?,
+            material_ids: bytes.list(material_ids)?,
+            material_table: bytes.list(material_table)?,
+            pairs: bytes.list(pairs)?,
+            rows,
+            columns,
+            values,
+        })
+    }
+
+    // The next case of the input. An input that has ended reads as a case of no bytes, which there is none of. No stored case is longer than the buffer.
+    fn next(rt: &impl Input) -> io::Result<Option<Self>> {
+        let mut length = [0; 4];
+        reading::read_full(rt, &mut length)?;
+        let length = u32::from_le_bytes(length) as usize;
+        if length == 0 {
+            return Ok(None);
+        }
+        let mut buf = [0; 65536];
+        let bytes = &mut buf[..length.min(65536)];
+        reading::read_full(rt, bytes)?;
+        Case::parse(bytes).map(Some)
+    }
+
+    // Answers the case, and prints the answer.
+    fn answer(&self, rt: &impl Print) -> io::Result<()> {
+        let mut lent = Lent::new();
+        let rows = &mut lent.rows[..(self.rows as usize).min(1152)];
+        let columns = &mut lent.columns[..(self.columns as usize).min(1152)];
+        let values = &mut lent.values[..(self.values as usize).min(1152)];
+        let answer = match self.operator {
+            OperatorKind::Interpolation => operator_exports::sobrizenta_interpolation_operator(
+                self.family as usize,
+                &self.nodes_rz,
+                &self.elements,
+                &self.element_indices,
+                &self.reference_points,
+                rows,
+                columns,
+                values,
+            ),
+            OperatorKind::Strain => operator_exports::sobrizenta_strain_operator(
+                self.family as usize,
+                &self.nodes_rz,
+                &self.elements,
+                &self.element_indices,
+                &self.reference_points,
+                self.formulation as usize,
+                self.thickness,
+                rows,
+                columns,
+                values,
+            ),
+            OperatorKind::Stress => operator_exports::sobrizenta_stress_operator(
+                self.family as usize,
+                &self.nodes_rz,
+                &self.elements,
+                &self.element_indices,
+                &self.reference_points,
+                self.formulation as usize,
+                self.thickness,
+                &self.material_ids,
+                &self.material_table,
+                self.pairs_given as usize,
+                &self.pairs,
+                rows,
+                columns,
+                values,
+            ),
+        };
+        lent.print(rt, answer)
+    }
+}
+
+// ---- the lent lists
+
+// A value's bits in sixteen hexadecimal digits, or nan.
+#[derive(Clone, Copy)]
+struct Bits(f64);
+
+impl fmt::Display for Bits {
+    fn fmt<W: fmt::Write>(&self, f: &mut fmt::Formatter<W>) -> fmt::Result {
+        if self.0.is_nan() {
+            write!(f, "nan")
+        } else {
+            let bits = self.0.to_bits();
+            write!(f, "{bits:016x}")
+        }
+    }
+}
+
+// Kept: three lists side by side, since the C interface is lent them so.
+#[derive(Drop)]
+struct Lent {
     rows: [usize; 1152],
     columns: [usize; 1152],
     values: [f64; 1152],
-) -> io::Result<bool> {
-    let mut kept = true;
-    for i in 0..1152 {
-        if !print_place(rt, i < triplets, rows[i], columns[i], values[i])? {
-            kept = false;
+}
+
+impl Lent {
+    fn new() -> Self {
+        Lent {
+            rows: [UNTOUCHED; 1152],
+            columns: [UNTOUCHED; 1152],
+            values: [UNTOUCHED_VALUE; 1152],
         }
     }
-    Ok(kept)
-}
 
-// Prints whether the places after the triplets are kept.
-fn print_kept(rt: &impl Print, kept: bool) -> io::Result<()> {
-    if kept {
-        println!(rt; "kept")
-    } else {
-        println!(rt; "touched")
+    // Prints the line of an answer, of which question 0 means that it is built; the lines of the triplets; and whether all places after them are as they were lent.
+    fn print(&self, rt: &impl Print, answer: OperatorNumbers) -> io::Result<()> {
+        let OperatorNumbers {
+            question,
+            place,
+            rows,
+            columns,
+            triplets,
+        } = answer;
+        if question == 0 {
+            println!(rt; "built {rows} {columns} {triplets}")?;
+        } else {
+            println!(rt; "refused {question} {place}")?;
+        }
+        let places = self.rows.iter().zip(&self.columns).zip(&self.values);
+        let mut kept = true;
+        for (i, ((row, column), value)) in places.enumerate() {
+            if i < triplets {
+                let value = Bits(*value);
+                println!(rt; "{row} {column} {value}")?;
+            } else if *row != UNTOUCHED || *column != UNTOUCHED || *value != UNTOUCHED_VALUE {
+                kept = false;
+            }
+        }
+        if kept {
+            println!(rt; "kept")
+        } else {
+            println!(rt; "touched")
+        }
     }
 }
 
-// Prints the whole text of an answer.
-fn print_outcome(
-    rt: &impl Print,
-    answer: OperatorNumbers,
-    rows: [usize; 1152],
-    columns: [usize; 1152],
-    values: [f64; 1152],
-) -> io::Result<()> {
-    print_answer(rt, answer)?;
-    let kept = print_places(rt, answer.triplets, rows, columns, values)?;
-    print_kept(rt, kept)
-}
-
-// ---- a case
-
-fn answer_interpolation<'a>(
-    rt: &impl Print,
-    case: &'a [u8; 65536],
-    nodes_rz: &'a [f64],
-    elements: &'a [u32],
-    element_indices: &'a [usize],
-    reference_points: &'a [f64],
-) -> io::Result<()> {
-    let mut rows = [UNTOUCHED; 1152];
-    let mut columns = [UNTOUCHED; 1152];
-    let mut values = [UNTOUCHED_VALUE; 1152];
-    let answer = operator_exports::sobrizenta_interpolation_operator(
-        family_of(case),
-        nodes_rz,
-        elements,
-        element_indices,
-        reference_points,
-        &mut rows[..count_of(case, ROWS, 1152)],
-        &mut columns[..count_of(case, COLUMNS, 1152)],
-        &mut values[..count_of(case, VALUES, 1152)],
-    );
-    print_outcome(rt, answer, rows, columns, values)
-}
-
-fn answer_strain<'a>(
-    rt: &impl Print,
-    case: &'a [u8; 65536],
-    nodes_rz: &'a [f64],
-    elements: &'a [u32],
-    element_indices: &'a [usize],
-    reference_points: &'a [f64],
-) -> io::Result<()> {
-    let mut rows = [UNTOUCHED; 1152];
-    let mut columns = [UNTOUCHED; 1152];
-    let mut values = [UNTOUCHED_VALUE; 1152];
-    let answer = operator_exports::sobrizenta_strain_operator(
-        family_of(case),
-        nodes_rz,
-        elements,
-        element_indices,
-        reference_points,
-        formulation_of(case),
-        thickness_of(case),
-        &mut rows[..count_of(case, ROWS, 1152)],
-        &mut columns[..count_of(case, COLUMNS, 1152)],
-        &mut values[..count_of(case, VALUES, 1152)],
-    );
-    print_outcome(rt, answer, rows, columns, values)
-}
-
-fn answer_stress<'a>(
-    rt: &impl Print,
-    case: &'a [u8; 65536],
-    nodes_rz: &'a [f64],
-    elements: &'a [u32],
-    element_indices: &'a [usize],
-    reference_points: &'a [f64],
-    material_ids: &'a [usize],
-    material_table: &'a [f64],
-    pairs: &'a [f64],
-) -> io::Result<()> {
-    let mut rows = [UNTOUCHED; 1152];
-    let mut columns = [UNTOUCHED; 1152];
-    let mut values = [UNTOUCHED_VALUE; 1152];
-    let answer = operator_exports::sobrizenta_stress_operator(
-        family_of(case),
-        nodes_rz,
-        elements,
-        element_indices,
-        reference_points,
-        formulation_of(case),
-        thickness_of(case),
-        material_ids,
-        material_table,
-        number_at(case, 3, 1) as usize,
-        pairs,
-        &mut rows[..count_of(case, ROWS, 1152)],
-        &mut columns[..count_of(case, COLUMNS, 1152)],
-        &mut values[..count_of(case, VALUES, 1152)],
-    );
-    print_outcome(rt, answer, rows, columns, values)
-}
-
-// Reads the lists that the stress operator alone takes, and answers the case.
-fn answer_material<'a>(
-    rt: &impl Print,
-    case: &'a [u8; 65536],
-    nodes_rz: &'a [f64],
-    elements: &'a [u32],
-    element_indices: &'a [usize],
-    reference_points: &'a [f64],
-) -> io::Result<()> {
-    let material_ids = numbers_of(case, MATERIAL_IDS);
-    let material_table = floats_of(case, MATERIAL_TABLE);
-    let pairs = floats_of(case, PAIRS);
-    answer_stress(
-        rt,
-        case,
-        nodes_rz,
-        elements,
-        element_indices,
-        reference_points,
-        &material_ids[..count_of(case, MATERIAL_IDS, 256)],
-        &material_table[..count_of(case, MATERIAL_TABLE, 256)],
-        &pairs[..count_of(case, PAIRS, 256)],
-    )
-}
-
-// Answers a case by the operator that it names.
-fn answer_lists<'a>(
-    rt: &impl Print,
-    case: &'a [u8; 65536],
-    nodes_rz: &'a [f64],
-    elements: &'a [u32],
-    element_indices: &'a [usize],
-    reference_points: &'a [f64],
-) -> io::Result<()> {
-    match number_at(case, 0, 1) {
-        0 => answer_interpolation(
-            rt,
-            case,
-            nodes_rz,
-            elements,
-            element_indices,
-            reference_points,
-        ),
-        1 => answer_strain(
-            rt,
-            case,
-            nodes_rz,
-            elements,
-            element_indices,
-            reference_points,
-        ),
-        _ => answer_material(
-            rt,
-            case,
-            nodes_rz,
-            elements,
-            element_indices,
-            reference_points,
-        ),
-    }
-}
-
-// Reads the lists that every operator takes, and answers the case.
-fn answer_case(rt: &impl Print, case: &[u8; 65536]) -> io::Result<()> {
-    let nodes_rz = floats_of(case, NODES_RZ);
-    let elements = nodes_of(case, ELEMENTS);
-    let element_indices = numbers_of(case, ELEMENT_INDICES);
-    let reference_points = floats_of(case, REFERENCE_POINTS);
-    answer_lists(
-        rt,
-        case,
-        &nodes_rz[..count_of(case, NODES_RZ, 256)],
-        &elements[..count_of(case, ELEMENTS, 256)],
-        &element_indices[..count_of(case, ELEMENT_INDICES, 256)],
-        &reference_points[..count_of(case, REFERENCE_POINTS, 256)],
-    )
-}
-
-// The next bytes of the input, and zeros after them. No stored case is longer than the buffer.
-fn next_bytes(rt: &impl Input, bytes: usize) -> io::Result<[u8; 65536]> {
-    let mut buf = [0u8; 65536];
-    reading::read_full(rt, &mut buf[..least(bytes, 65536)])?;
-    Ok(buf)
-}
-
-// Answers case after case until the input ends, which reads as a case of no bytes.
+// Answers case after case until the input ends.
 fn main(rt: HostRuntime) -> io::Result<()> {
     for _ in 0..100000 {
-        let bytes = number_at(&next_bytes(&rt, 4)?, 0, 4) as usize;
-        if bytes == 0 {
-            return Ok(());
-        }
-        answer_case(&rt, &next_bytes(&rt, bytes)?)?;
+        let Some(case) = Case::next(&rt)? else {
+            break;
+        };
+        case.answer(&rt)?;
     }
     Ok(())
 }

@@ -10,21 +10,23 @@ ghost use Rattle.definition.specs.Root.{in_units, root_units, root_of};
 ghost use Rattle.definition.proofs.Root.Isqrt.{Whole};
 ghost use Rattle.definition.proofs.Root.Scaled.{Scaled};
 
+use std::num::f64_to_bits_with_nan;
+
 // The root of x.
 pub fn root(x: f64) -> f64
     ensures { result ≡ root_of x }
 {
     if x > 0.0 {
-        let b = f64::to_bits(x);
-        if b < 0x7ff0_0000_0000_0000 {
-            return positive_root(b);
+        if x < f64::INFINITY {
+            positive_root(x.to_bits())
+        } else {
+            x
         }
-        return x;
+    } else if x == 0.0 {
+        x
+    } else {
+        f64::NAN
     }
-    if x == 0.0 {
-        return x;
-    }
-    0.0 / 0.0
 }
 
 // The root of the finite value above zero whose bit pattern is b.
@@ -34,14 +36,9 @@ fn positive_root(b: u64) -> f64
 {
     let v = scale(b);
     let exponent = (v.h + 1) * 0x10_0000_0000_0000;
-    let g = guess(b);
-    if g == g {
-        let p = f64::to_bits(g);
-        if exponent <= p {
-            if is_root(p - exponent, v.a) {
-                return f64::from_bits(p);
-            }
-        }
+    let p = f64_to_bits_with_nan(guess(b));
+    if exponent <= p && is_root(p - exponent, v.a) {
+        return f64::from_bits(p);
     }
     f64::from_bits(exponent + (digits(v.a) + 1) / 2)
 }
@@ -61,7 +58,7 @@ fn scale(b: u64) -> Split
     let e = b >> 52;
     let t = b % 0x10_0000_0000_0000;
     if e == 0 {
-        let z = u64::leading_zeros(t);
+        let z = t.leading_zeros();
         let p = 1085 - z;
         Split {
             a: t << (z - 11 + p % 2),
@@ -77,6 +74,7 @@ fn scale(b: u64) -> Split
 }
 
 // About the root of the value x whose bit pattern is b: a guess, of which nothing is promised.
+#[tactic(auto, using(std::proofs::lemmas::Float::not_nan_f64_bits))]
 fn guess(b: u64) -> f64
     requires { b < 2047 * 2 ^ 52 }
 {
@@ -118,19 +116,13 @@ fn is_root(c: u64, a: u64) -> bool
     let low = (m % 0x100_0000) * 0x1000_0000 + c0 * c0;
     // a * 2^52 + c - c * c is k - l
     let top = a + 4;
-    if top < high {
+    if top < high || 15 < top - high {
         return false;
     }
     let d = top - high;
-    if 15 < d {
-        return false;
-    }
     let k = d * 0x10_0000_0000_0000 + c;
     let l = low + 0x40_0000_0000_0000;
-    if k <= l {
-        return false;
-    }
-    k <= l + 2 * c
+    l < k && k <= l + 2 * c
 }
 
 // Part of a root's digits, and what is left of the number's.
@@ -147,11 +139,9 @@ fn digits(a: u64) -> u64
 {
     let mut p = Part { s: 0, rest: 0 };
     let mut more = a;
-    let mut j = 0u64;
-    while j < 54 {
+    for _ in 0..54u32 {
         p = step(p, more >> 52);
         more = (more % 0x10_0000_0000_0000) * 4;
-        j += 1;
     }
     p.s
 }

@@ -1,5 +1,5 @@
 -- The strain values by rows: each row is written from its place on, and the lists that the rows are made of hold what the definition reads. Assumes nothing.
-use mathlib.Core.Path.{◌≡◌, refl, ◌∙◌}
+use mathlib.Core.Path.{◌≡◌, refl}
 use mathlib.Core.List.{List, [], ◌∷◌}
 use Prim.Native.Nat.{ℕ, ◌+◌, ◌*◌, ◌≤◌, ◌<◌}
 use native.Mathlib.Omega.{arith}
@@ -7,11 +7,10 @@ use lib.ListN.{get_or, replicate, get_or-replicate}
 use lib.Ieee.{Float, nan}
 use Rattle.definition.specs.Lists.{each, over}
 use Rattle.definition.specs.Binary64.{plus0}
-use Rattle.definition.specs.Query.{values}
 use Rattle.definition.specs.Mapping.{first, second}
 use Rattle.definition.specs.Rows.{Basis, hoop, strain_entry}
 use Rattle.definition.specs.declared.Structural2dFormulation.{Structural2dFormulation}
-use Rattle.definition.proofs.Lists.{each_same, values_length, values_at, over_at}
+use Rattle.definition.proofs.Lists.{each_same}
 use Rattle.materials.specs.Products.{over_from}
 use Rattle.materials.proofs.Writing.{part_next}
 use Rattle.rows.specs.Values.{values_of, entry_by}
@@ -48,11 +47,7 @@ module _ (x y t : List Float) {F : ℕ} (few : F ≤ 9) where
       r (each_same (λ j h. rw (none_at j h))))
       s refl
 
--- ---- the lists
-
--- the numbers that a loop over the nodes wrote
-pub node_value : (v : ℕ → Float) (n : ℕ) {j : ℕ} {l : List Float} (old : List Float) → l ≡ over (values v n) old → j < n → get_or l j nan ≡ v j
-node_value v n old e h = rw e (over_at (values v n) old nan (rw (values_length v n) h) ∙ values_at v nan h)
+-- ---- the lists that the rows are made of
 
 pub entries_are : (f : Structural2dFormulation) (b : Basis) (x y t : List Float) {F : ℕ} →
     ((j : ℕ) → j < F → get_or x j nan ≡ first b.gradient j) →

@@ -5,8 +5,10 @@
 mod element_search;
 mod face_search;
 mod places;
+mod searching;
 mod steps;
 
 pub use element_search::{closest_reference_point, element_best};
 pub use face_search::{closest_face_point, face_best};
-pub use places::{ElementBest, FaceBest, SeedBests, seed_bests};
+pub use places::{ElementBests, bests, seed_bests};
+pub use searching::nearer;

@@ -15,7 +15,7 @@ use Rattle.materials.specs.Products.{entry_of, times_of}
 use Rattle.materials.specs.Sixteen.{sixteen}
 use Rattle.materials.proofs.Sixteen.{times_of_sixteen}
 use Rattle.rows.specs.Values.{values_of}
-use Rattle.rows.proofs.Values.{written_at}
+use Rattle.operators.proofs.Filling.{written_at}
 
 -- two entries a node
 values_by_node : {A : Type 0} (v : ℕ → A) (F : ℕ) → values v (2 * F) ≡ each (λ j. values (λ d. v (2 * j + d)) 2) F
@@ -28,7 +28,7 @@ values_by_node v (suc F) =
 -- the four strains that a stress entry is made of stand at column t of the four rows
 entry_is : (material : List Float) (f : Structural2dFormulation) (b : Basis) (F i : ℕ) {j d : ℕ} (old : List Float) → j < F → d < 2 →
     entry_of material (over (values_of (strain_entry f b) F) old) (2 * F) i (2 * j + d) ≡ stress_entry material f b i j d
-unfolding entry_of stress_entry
+unfolding entry_of stress_entry values_of
 entry_is material f b F i {j} {d} old h c =
     let strain : (k n : ℕ) → k < 4 → n ≡ 2 * F * k + (2 * j + d) → get_or (over (values_of (strain_entry f b) F) old) n nan ≡ strain_entry f b k j d = λ k n a e. rw e (written_at (strain_entry f b) a h c old) in
     rw (

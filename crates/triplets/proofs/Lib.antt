@@ -1,5 +1,3 @@
--- What holds of triplets put one after the other, and of the triplets of an operator.
+-- What holds of triplets put one after the other.
 pub mod Strips
-mod Numbers
-pub mod Filling
-pub mod Promised
+pub mod Putting

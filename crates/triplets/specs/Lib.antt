@@ -1,3 +1,3 @@
 -- The words of this crate's contracts, and of those of the operators.
 pub mod Strip
-pub mod Triplets
+pub mod Lent

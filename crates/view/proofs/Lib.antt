@@ -1,4 +1,3 @@
--- What the proofs of the calls over a view cite.
-pub mod Formulation
+-- The law of a thin call over a view.
 pub mod Opened
 pub mod OverView

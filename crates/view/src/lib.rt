@@ -1,4 +1,4 @@
-// The mesh view: the node list and the connectivity, held together and lent. Each call over it takes it apart and hands its two lists to the call of the same name, whose promise it has.
+// The mesh view: the node list and the connectivity, held together and lent. Each call over it makes a mesh of a family, and has the promise of the call of the same name.
 // `nodes_rz` holds two coordinates a node, in the mesh's unit of length, and `elements` F node numbers an element, from 0. The family, 4 or 9, stands beside the view.
 // The view is no more than the two lists: it asks nothing of them, and every call asks its own questions.
 #![tactic(auto)]
@@ -7,10 +7,17 @@ ghost use Rattle.std.specs.Prelude.{◌≡◌, []};
 ghost use Rattle.definition.specs.Mesh.{element_nodes};
 ghost use Rattle.definition.specs.Operators.{InterpolationPromise, StrainPromise, StressPromise};
 ghost use Rattle.definition.specs.Query.{QueryPromise};
-ghost use Rattle.operator_questions.specs.Calls.{interpolation_call, strain_call, stress_call};
-ghost use Rattle.query.specs.Query.{call, lists};
+ghost use Rattle.answers.specs.Lent.{query_lists, SameLists as SameQueryLists};
+ghost use Rattle.triplets.specs.Lent.{triplet_lists, SameLists as SameTripletLists};
+ghost use Rattle.calls.specs.Flat.{interpolation_call, strain_call, stress_call};
+ghost use Rattle.query.specs.Query.{call};
 
-use definition::{OperatorAnswer, QueryAnswer, Structural2dFormulation};
+use answers::QueryLists;
+use calls::{InterpolationCall, QueryCall, StrainCall, StressCall};
+use definition::{OperatorCounts, QueryCounts, Refusal, Structural2dFormulation};
+use materials::Materials;
+use mesh::QuadMesh;
+use triplets::TripletLists;
 
 // The Rust's `QuadMeshView2d`.
 #[derive(Clone, Copy)]
@@ -26,151 +33,100 @@ pub fn quad_mesh_view<'a>(nodes_rz: &'a [f64], elements: &'a [u32]) -> QuadMeshV
     QuadMeshView2d { nodes_rz, elements }
 }
 
-// The node numbers of an element: the part of the held connectivity that is its row. See `mesh::element_nodes`.
+// The node numbers of an element: the part of the held connectivity that is its row. See `mesh::QuadMesh::element_nodes`.
+#[tactic(auto, unfolding(definition::specs::Mesh::element_nodes))]
 pub fn element_nodes<'a>(family: usize, mesh: QuadMeshView2d<'a>, element_index: usize) -> &'a [u32]
     ensures { result.now ≡ element_nodes (record { family = family; nodes = []; elements = mesh.entry.elements.now }) element_index }
 {
-    mesh::element_nodes(family, mesh.elements, element_index)
+    let mesh = QuadMesh::new(family, mesh.nodes_rz, mesh.elements);
+    mesh.element_nodes(element_index)
 }
 
 // The query over the view. See `query::query_quad_mesh`.
+// Kept: the Rust has these four functions over a view. One that took a call in place of these parameters would be the one under it, and is no plainer; that the lists are the same ones is a fact of two values, which no model of one can hold.
 pub fn query_quad_mesh<'a>(
     family: usize,
     max_iterations: usize,
     mesh: QuadMeshView2d<'a>,
     points: &[f64],
-    nearest_node_indices: &mut [usize],
-    nearest_node_points: &mut [f64],
-    nearest_node_distances: &mut [f64],
-    nearest_element_indices: &mut [usize],
-    nearest_element_reference_points: &mut [f64],
-    nearest_element_points: &mut [f64],
-    nearest_element_distances: &mut [f64],
-    nearest_face_element_indices: &mut [usize],
-    nearest_face_local_faces: &mut [u8],
-    nearest_face_reference_coordinates: &mut [f64],
-    nearest_face_points: &mut [f64],
-    nearest_face_distances: &mut [f64],
-) -> QueryAnswer
-    ensures { QueryPromise
+    lent: &mut QueryLists,
+) -> Result<QueryCounts, Refusal>
+    ensures same { SameQueryLists lent.old lent.new }
+    ensures promise { QueryPromise
         (call family max_iterations mesh.entry.nodes_rz.now mesh.entry.elements.now points.now)
-        (lists nearest_node_indices.old nearest_node_points.old nearest_node_distances.old nearest_element_indices.old nearest_element_reference_points.old nearest_element_points.old nearest_element_distances.old nearest_face_element_indices.old nearest_face_local_faces.old nearest_face_reference_coordinates.old nearest_face_points.old nearest_face_distances.old)
+        (query_lists lent.old)
         result
-        (lists nearest_node_indices.new nearest_node_points.new nearest_node_distances.new nearest_element_indices.new nearest_element_reference_points.new nearest_element_points.new nearest_element_distances.new nearest_face_element_indices.new nearest_face_local_faces.new nearest_face_reference_coordinates.new nearest_face_points.new nearest_face_distances.new) }
+        (query_lists lent.new) }
 {
-    query::query_quad_mesh(
-        family,
-        max_iterations,
-        mesh.nodes_rz,
-        mesh.elements,
-        points,
-        nearest_node_indices,
-        nearest_node_points,
-        nearest_node_distances,
-        nearest_element_indices,
-        nearest_element_reference_points,
-        nearest_element_points,
-        nearest_element_distances,
-        nearest_face_element_indices,
-        nearest_face_local_faces,
-        nearest_face_reference_coordinates,
-        nearest_face_points,
-        nearest_face_distances,
-    )
+    let mesh = QuadMesh::new(family, mesh.nodes_rz, mesh.elements);
+    let call = QueryCall::new(mesh, max_iterations, points);
+    query::query_quad_mesh(&call, lent)
 }
 
 // The interpolation operator over the view. See `interpolation::quad_mesh_interpolation_operator`.
+// Kept: the Rust has these four functions over a view. One that took a call in place of these parameters would be the one under it, and is no plainer; that the lists are the same ones is a fact of two values, which no model of one can hold.
 pub fn quad_mesh_interpolation_operator<'a>(
     family: usize,
     mesh: QuadMeshView2d<'a>,
     element_indices: &[usize],
     reference_points: &[f64],
-    rows: &mut [usize],
-    columns: &mut [usize],
-    values: &mut [f64],
-) -> OperatorAnswer
-    ensures { InterpolationPromise
+    lent: &mut TripletLists,
+) -> Result<OperatorCounts, Refusal>
+    ensures same { SameTripletLists lent.old lent.new }
+    ensures promise { InterpolationPromise
         (interpolation_call family mesh.entry.nodes_rz.now mesh.entry.elements.now element_indices.now reference_points.now)
-        (record { rows = rows.old; columns = columns.old; values = values.old })
+        (triplet_lists lent.old)
         result
-        (record { rows = rows.new; columns = columns.new; values = values.new }) }
+        (triplet_lists lent.new) }
 {
-    interpolation::quad_mesh_interpolation_operator(
-        family,
-        mesh.nodes_rz,
-        mesh.elements,
-        element_indices,
-        reference_points,
-        rows,
-        columns,
-        values,
-    )
+    let mesh = QuadMesh::new(family, mesh.nodes_rz, mesh.elements);
+    let call = InterpolationCall::new(mesh, element_indices, reference_points);
+    interpolation::quad_mesh_interpolation_operator(&call, lent)
 }
 
 // The strain operator over the view. See `strain::quad_mesh_strain_operator`.
+// Kept: the Rust has these four functions over a view. One that took a call in place of these parameters would be the one under it, and is no plainer; that the lists are the same ones is a fact of two values, which no model of one can hold.
 pub fn quad_mesh_strain_operator<'a>(
     family: usize,
     mesh: QuadMeshView2d<'a>,
     element_indices: &[usize],
     reference_points: &[f64],
     formulation: Structural2dFormulation,
-    rows: &mut [usize],
-    columns: &mut [usize],
-    values: &mut [f64],
-) -> OperatorAnswer
-    ensures { StrainPromise
+    lent: &mut TripletLists,
+) -> Result<OperatorCounts, Refusal>
+    ensures same { SameTripletLists lent.old lent.new }
+    ensures promise { StrainPromise
         (strain_call (interpolation_call family mesh.entry.nodes_rz.now mesh.entry.elements.now element_indices.now reference_points.now) formulation)
-        (record { rows = rows.old; columns = columns.old; values = values.old })
+        (triplet_lists lent.old)
         result
-        (record { rows = rows.new; columns = columns.new; values = values.new }) }
+        (triplet_lists lent.new) }
 {
-    strain::quad_mesh_strain_operator(
-        family,
-        mesh.nodes_rz,
-        mesh.elements,
-        element_indices,
-        reference_points,
-        formulation,
-        rows,
-        columns,
-        values,
-    )
+    let mesh = QuadMesh::new(family, mesh.nodes_rz, mesh.elements);
+    let base = InterpolationCall::new(mesh, element_indices, reference_points);
+    let call = StrainCall::new(base, formulation);
+    strain::quad_mesh_strain_operator(&call, lent)
 }
 
 // The stress operator over the view. See `stress::quad_mesh_stress_operator`.
+// Kept: the Rust has these four functions over a view. One that took a call in place of these parameters would be the one under it, and is no plainer; that the lists are the same ones is a fact of two values, which no model of one can hold.
 pub fn quad_mesh_stress_operator<'a>(
     family: usize,
     mesh: QuadMeshView2d<'a>,
     element_indices: &[usize],
     reference_points: &[f64],
     formulation: Structural2dFormulation,
-    material_ids: &[usize],
-    material_table: &[f64],
-    pairs_given: bool,
-    pairs: &[f64],
-    rows: &mut [usize],
-    columns: &mut [usize],
-    values: &mut [f64],
-) -> OperatorAnswer
-    ensures { StressPromise
-        (stress_call (interpolation_call family mesh.entry.nodes_rz.now mesh.entry.elements.now element_indices.now reference_points.now) formulation material_ids.now material_table.now pairs_given pairs.now)
-        (record { rows = rows.old; columns = columns.old; values = values.old })
+    materials: Materials,
+    lent: &mut TripletLists,
+) -> Result<OperatorCounts, Refusal>
+    ensures same { SameTripletLists lent.old lent.new }
+    ensures promise { let m = materials.entry in StressPromise
+        (stress_call (interpolation_call family mesh.entry.nodes_rz.now mesh.entry.elements.now element_indices.now reference_points.now) formulation m.ids m.table m.pairs_given m.pairs)
+        (triplet_lists lent.old)
         result
-        (record { rows = rows.new; columns = columns.new; values = values.new }) }
+        (triplet_lists lent.new) }
 {
-    stress::quad_mesh_stress_operator(
-        family,
-        mesh.nodes_rz,
-        mesh.elements,
-        element_indices,
-        reference_points,
-        formulation,
-        material_ids,
-        material_table,
-        pairs_given,
-        pairs,
-        rows,
-        columns,
-        values,
-    )
+    let mesh = QuadMesh::new(family, mesh.nodes_rz, mesh.elements);
+    let base = InterpolationCall::new(mesh, element_indices, reference_points);
+    let call = StressCall::new(base, formulation, materials);
+    stress::quad_mesh_stress_operator(&call, lent)
 }

@@ -3,6 +3,7 @@
 use mathlib.Core.Path.{◌≡◌, refl, sym, ap, ◌∙◌}
 use mathlib.Core.Bool.{Bool, true, false, not, ◌&&◌, ◌||◌}
 use mathlib.Core.List.{List, [], ◌∷◌}
+use Rattle.std.specs.Prelude.{Ok}
 use Prim.Native.Nat.{ℕ, ◌+◌, ◌-◌, ◌*◌, ◌%◌, ◌<◌}
 use borrow.Author.Tests.{ltb-true, eqb-true}
 use lib.Dec.{ltb, eqb}
@@ -13,15 +14,15 @@ use Rattle.definition.specs.Binary64.{plus0, one, two, minus_one, half, quarter}
 use Rattle.definition.specs.Mesh.{Mesh, node_count, element_count, pair_count, pair_at}
 use Rattle.definition.specs.Choice.{node_distance, element_distance, face_distance}
 use Rattle.definition.specs.Questions.{Outcome, accepted}
-use Rattle.definition.specs.Query.{QueryCall, QueryLists, QueryCounts, queried, query_lists, answer_at, answers_over}
-use Rattle.definition.specs.Operators.{InterpolationCall, TripletLists, OperatorCounts, operated, triplet_lists, interpolation}
+use Rattle.definition.specs.Query.{QueryCall, QueryLists, queried, query_lists, answer_at, answers_over}
+use Rattle.definition.specs.Operators.{InterpolationCall, TripletLists, operated, triplet_lists, interpolation}
 use Rattle.definition.specs.Rows.{Triplet}
 use Rattle.definition.specs.Renumbering.{Permutation, Renumbering, SameLengths, NoNan, QueryKept, Nearest, JustOneNearest, triplets_of, TwoOperators, OperatorKept, move_list, renumbered_query, ComputedQueries}
 use Rattle.definition.specs.declared.Point.{Point}
 use Rattle.definition.specs.declared.PointAnswer.{PointAnswer}
 use Rattle.definition.specs.declared.ElementProjection.{ElementProjection}
-use Rattle.definition.specs.declared.QueryAnswer.TheVariants.{Accepted}
-use Rattle.definition.specs.declared.OperatorAnswer.TheVariants.{Built}
+use Rattle.definition.specs.declared.QueryCounts.{QueryCounts}
+use Rattle.definition.specs.declared.OperatorCounts.{OperatorCounts}
 use Rattle.definition.proofs.Computing.{querying, operating}
 use Rattle.definition.proofs.Lists.{and_parts, every_at}
 use Rattle.definition.proofs.Renumbering.Computed.{demand3_computed}
@@ -193,8 +194,8 @@ tied_runs =
       before' = nines 2;
       after = left tied;
       after' = left tied';
-      answer = Accepted 2 0 1;
-      answer' = Accepted 2 0 1;
+      answer = Ok (record { points = 2; repeated = 0; inside = 1 });
+      answer' = Ok (record { points = 2; repeated = 0; inside = 1 });
       promise = record { answers = tied_accepted; leaves = refl };
       promise' = record { answers = tied_accepted'; leaves = refl };
       lengths = same_lengths (nines 2);
@@ -203,7 +204,7 @@ tied_runs =
       no_nan = λ p l. no_nan squares 0 (pair_at tied.points p) (every_at (λ p. numbers_of squares 0 (pair_at tied.points p)) tied_numbers l);
     }
 
-tied_kept : QueryKept tied tied_order tied' (record { points = 2; repeated = 0; inside = 1 }) (left tied) (left tied') (Accepted 2 0 1)
+tied_kept : QueryKept tied tied_order tied' (record { points = 2; repeated = 0; inside = 1 }) (left tied) (left tied') (Ok (record { points = 2; repeated = 0; inside = 1 }))
 unfolding tied_runs
 tied_kept = demand3_computed.query_kept tied_runs
 
@@ -313,8 +314,8 @@ single_runs =
       before' = nines 2;
       after = left single;
       after' = left single';
-      answer = Accepted 2 0 0;
-      answer' = Accepted 2 0 0;
+      answer = Ok (record { points = 2; repeated = 0; inside = 0 });
+      answer' = Ok (record { points = 2; repeated = 0; inside = 0 });
       promise = record { answers = single_accepted; leaves = refl };
       promise' = record { answers = single_accepted'; leaves = refl };
       lengths = same_lengths (nines 2);
@@ -381,8 +382,8 @@ interpolation_runs =
       after = interpolated single;
       after' = interpolated single';
       lengths = record { rows = refl; columns = refl; values = refl };
-      answer = Built 2 6 6;
-      answer' = Built 2 6 6;
+      answer = Ok (record { rows = 2; columns = 6; triplets = 6 });
+      answer' = Ok (record { rows = 2; columns = 6; triplets = 6 });
       promise = record { answers = interpolation_accepted; leaves = refl };
       promise' = record { answers = interpolation_accepted'; leaves = refl };
     }

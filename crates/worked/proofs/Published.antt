@@ -9,11 +9,12 @@ use lib.Ieee.{Float, binary64, round}
 use Rattle.definition.specs.Lists.{each}
 use Rattle.definition.specs.Elements.{shape_of}
 use Rattle.definition.specs.Mapping.{inv_j, point_at, jacobian_at}
-use Rattle.definition.specs.Search.{more, reference, element_step, face_step, closest_face_point}
+use Rattle.definition.specs.Search.{reference, element_step, face_step, closest_face_point}
 use Rattle.definition.specs.Mesh.{Mesh, gathered}
 use Rattle.definition.specs.Rows.{basis_at}
 use Rattle.definition.specs.Operators.{StressCall, TripletLists, operated, triplet_lists, stress}
 use Rattle.definition.specs.declared.Reference.{Reference}
+use Rattle.definition.specs.declared.Step.TheVariants.{More}
 use Rattle.definition.specs.declared.Structural2dFormulation.TheVariants.{Axisymmetric}
 use Rattle.definition.proofs.Computing.{mapping, searching, operating}
 use Rattle.definition.proofs.Written.{bits, at}
@@ -41,15 +42,15 @@ skew9 =
 
 -- The Rust's best with one step a seed is, at these targets, the step from the first seed at (0, 0) and from s = 0.
 
-element4_step : element_step (gathered skew4 0) (at (tenths 11) (tenths 7)) (reference (tenths 0) (tenths 0)) ≡ more (reference (bits 0x3f846dce3459607a) (bits 0xbfd0705bee1feb94))
+element4_step : element_step (gathered skew4 0) (at (tenths 11) (tenths 7)) (reference (tenths 0) (tenths 0)) ≡ More (reference (bits 0x3f846dce3459607a) (bits 0xbfd0705bee1feb94))
 unfolding searching
 element4_step = refl
 
-element9_step : element_step (gathered skew9 0) (at (tenths 11) (tenths 7)) (reference (tenths 0) (tenths 0)) ≡ more (reference (bits 0xbf922d719c060f28) (bits 0xbfc3b13b13b13b18))
+element9_step : element_step (gathered skew9 0) (at (tenths 11) (tenths 7)) (reference (tenths 0) (tenths 0)) ≡ More (reference (bits 0xbf922d719c060f28) (bits 0xbfc3b13b13b13b18))
 unfolding searching
 element9_step = refl
 
-face9_step : face_step (gathered skew9 0) 2 (at (tenths 5) (tenths 18)) (tenths 0) ≡ more (bits 0x3fd44daec944daec)
+face9_step : face_step (gathered skew9 0) 2 (at (tenths 5) (tenths 18)) (tenths 0) ≡ More (bits 0x3fd44daec944daec)
 unfolding searching
 face9_step = refl
 

@@ -6,7 +6,9 @@ use lib.ListN.{replicate}
 use lib.Ieee.{Float, nan, neg}
 use Rattle.definition.specs.Lists.{each}
 use Rattle.definition.specs.Binary64.{◌⊕◌, ◌⊗◌, plus0, one, minus_one}
-use Rattle.definition.specs.Search.{Step, stay, last, more, reference, element_step, element_seeds, element_best, face_step, face_best}
+use Rattle.definition.specs.declared.Step.{Step}
+use Rattle.definition.specs.declared.Step.TheVariants.{Stay, Last, More}
+use Rattle.definition.specs.Search.{reference, element_step, element_seeds, element_best, face_step, face_best}
 use Rattle.definition.specs.declared.Point.{Point}
 use Rattle.definition.specs.declared.Reference.{Reference}
 use Rattle.definition.specs.declared.GatheredElement.{GatheredElement}
@@ -47,12 +49,12 @@ element_bounds :
     ∷ element_row (linear nan plus0 plus0 one) (at plus0 plus0)
     ∷ element_row (linear (number 2) (number 26270) (number 31602) (number 415092270)) (at plus0 plus0)
     ∷ []
-    ≡ stay
-    ∷ more (reference (two_to_minus 1) plus0)
-    ∷ last (reference (two_to_minus 52) plus0)
-    ∷ more (reference (next (two_to_minus 52)) plus0)
-    ∷ more (reference minus_one minus_one)
-    ∷ last (reference plus0 plus0)
+    ≡ Stay
+    ∷ More (reference (two_to_minus 1) plus0)
+    ∷ Last (reference (two_to_minus 52) plus0)
+    ∷ More (reference (next (two_to_minus 52)) plus0)
+    ∷ More (reference minus_one minus_one)
+    ∷ Last (reference plus0 plus0)
     ∷ []
 unfolding searching
 element_bounds = refl
@@ -66,11 +68,11 @@ face_bounds :
     ∷ face_row (linear one plus0 plus0 one) (at (next (two_to_minus 52)) minus_one)
     ∷ face_row (linear nan plus0 plus0 one) (at plus0 plus0)
     ∷ []
-    ≡ stay
-    ∷ more one
-    ∷ last (two_to_minus 52)
-    ∷ more (next (two_to_minus 52))
-    ∷ more minus_one
+    ≡ Stay
+    ∷ More one
+    ∷ Last (two_to_minus 52)
+    ∷ More (next (two_to_minus 52))
+    ∷ More minus_one
     ∷ []
 unfolding searching
 face_bounds = refl

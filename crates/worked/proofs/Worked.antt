@@ -11,8 +11,9 @@ use Rattle.definition.specs.Binary64.{plus0, one, two, half, quarter, minus_quar
 use Rattle.definition.specs.Root.{root_of}
 use Rattle.definition.specs.Elements.{nodes_of, shape_of}
 use Rattle.definition.specs.Questions.{Outcome, accepted, refused}
-use Rattle.definition.specs.Operators.{InterpolationCall, StrainCall, TripletLists, OperatorCounts, operated, triplet_lists, interpolation, strain}
+use Rattle.definition.specs.Operators.{InterpolationCall, StrainCall, TripletLists, operated, triplet_lists, interpolation, strain}
 use Rattle.definition.specs.Job.{text, listing}
+use Rattle.definition.specs.declared.OperatorCounts.{OperatorCounts}
 use Rattle.definition.specs.declared.Structural2dFormulation.{Structural2dFormulation}
 use Rattle.definition.specs.declared.Structural2dFormulation.TheVariants.{Axisymmetric, PlaneStrain}
 use Rattle.definition.proofs.Computing.{listing_of_jobs, operating}

@@ -11,7 +11,8 @@ use lib.Ieee.Fits.{round_is, add-fits}
 use lib.Ieee.Bits.{is_false}
 use Rattle.definition.specs.Binary64.{◌⊕◌, ◌⊖◌, ◌⊗◌, squared_distance}
 use Rattle.definition.specs.Root.{root_of}
-use Rattle.definition.specs.Search.{Step, walked, placed, nearer, best_of, element_best, closest_reference_point, face_best, closest_face_point}
+use Rattle.definition.specs.declared.Step.{Step}
+use Rattle.definition.specs.Search.{walked, placed, nearer, best_of, element_best, closest_reference_point, face_best, closest_face_point}
 use Rattle.definition.specs.declared.Point.{Point}
 use Rattle.definition.specs.declared.GatheredElement.{GatheredElement}
 use Rattle.definition.proofs.Root.{clear, root_fits, root_clear, root_nan, root_not_lt}

@@ -4,6 +4,7 @@ use mathlib.Core.Path.{◌≡◌, refl, sym, ap, ap₂, ◌∙◌}
 use mathlib.Core.Bool.{Bool, true, false}
 use mathlib.Core.List.{List, [], ◌∷◌, map}
 use Prim.Native.Nat.{ℕ, ◌*◌, ◌<◌}
+use Rattle.std.specs.Prelude.{Result}
 use lib.ListN.{length, get_or, take}
 use lib.Ieee.{Float, nan}
 use Rattle.definition.specs.Lists.{each, over}
@@ -12,12 +13,13 @@ use Rattle.definition.specs.Mapping.{first, second}
 use Rattle.definition.specs.Search.{element_best, closest_reference_point}
 use Rattle.definition.specs.Mesh.{Mesh, node_count, element_count, pair_at, gathered, node_of}
 use Rattle.definition.specs.Choice.{pick, element_distance, point_answer}
-use Rattle.definition.specs.Questions.{Question, Outcome, accepted}
+use Rattle.definition.specs.Questions.{Question, Outcome, accepted, outcome}
 use Rattle.definition.specs.Query.{QueryCall, QueryLists, answer_at, answers_over, values}
 use Rattle.definition.specs.Rows.{Triplet, point_triplets}
-use Rattle.definition.specs.Operators.{InterpolationCall, TripletLists, Operator, OperatorCounts, operator_outcome, operated, triplet_lists, OperatorPromise, operator_of, element_at, reference_at, gathered_at}
+use Rattle.definition.specs.Operators.{InterpolationCall, TripletLists, Operator, operated, triplet_lists, OperatorPromise, operator_of, element_at, reference_at, gathered_at}
 use Rattle.definition.specs.Renumbering.{TwoQueries, JustOneNearest, HandedOut, triplets_of, of_point, renamed, SameRows, BothTimes}
-use Rattle.definition.specs.declared.OperatorAnswer.{OperatorAnswer}
+use Rattle.definition.specs.declared.OperatorCounts.{OperatorCounts}
+use Rattle.definition.specs.declared.Refusal.{Refusal}
 use Rattle.definition.proofs.Lists.{each_same, values_at, values_length, pairs_first, pairs_second, pairs_length, over_take}
 use Rattle.definition.proofs.Passing.{passes, asked_passed, asked_refused}
 use Rattle.definition.proofs.Renumbering.Mesh.{nodes_count, node_moved, gathered_same, point_same}
@@ -182,7 +184,7 @@ module _ (t : TwoQueries) (S : JustOneNearest t.query) (c c' : InterpolationCall
           triplets = λ p l. rw (triplets_are, triplets_are') (rows_of_lem' (t.order.to_p p) (new_point t p l) ∙ rows_renamed h p l ∙ ap (map (renamed k d t.order.to_p t.order.to_n)) (sym (rows_of_lem p l)));
         }
 
-    module _ (before before' after after' : TripletLists) (answer answer' : OperatorAnswer) (promise : OperatorPromise o before answer after) (promise' : OperatorPromise o' before' answer' after') where
+    module _ (before before' after after' : TripletLists) (answer answer' : Result OperatorCounts Refusal) (promise : OperatorPromise o before answer after) (promise' : OperatorPromise o' before' answer' after') where
       abbrev Kept : Outcome OperatorCounts → Outcome OperatorCounts → Type 0
       Kept x y = BothTimes k d n t.order.to_p t.order.to_n after after' x y
 
@@ -190,7 +192,7 @@ module _ (t : TwoQueries) (S : JustOneNearest t.query) (c c' : InterpolationCall
       holds : (x : Operator) (b a : TripletLists) → a ≡ triplet_lists x (operated x) b → operated x ≡ accepted (counted x) → triplets_of a (length x.triplets) ≡ x.triplets
       holds x b a e h = rw (e, h) (triplets_read x.triplets b)
 
-      by : (b : Bool) → passes qs ≡ b → Kept (operator_outcome answer) (operator_outcome answer')
+      by : (b : Bool) → passes qs ≡ b → Kept (outcome answer) (outcome answer')
       unfolding operated operator_of
       by true h =
           let a : operated o ≡ accepted (counted o) = asked_passed qs (counted o) h in
@@ -202,5 +204,5 @@ module _ (t : TwoQueries) (S : JustOneNearest t.query) (c c' : InterpolationCall
           let a' = asked_refused qs' (counted o') (alike ∙ h) in
           rw (promise.answers, promise'.answers, a.2, a'.2) tt
 
-      pub operators_agree : Kept (operator_outcome answer) (operator_outcome answer')
+      pub operators_agree : Kept (outcome answer) (outcome answer')
       operators_agree = by (passes qs) refl

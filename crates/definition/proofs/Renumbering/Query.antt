@@ -16,7 +16,8 @@ use Rattle.definition.specs.Search.{element_best, closest_reference_point, face_
 use Rattle.definition.specs.Mesh.{Mesh, node_count, element_count, pair_count, pair_at, gathered, repeated_count}
 use Rattle.definition.specs.Choice.{pick, node_square, node_distance, element_distance, face_distance, point_answer}
 use Rattle.definition.specs.Questions.{Outcome, accepted}
-use Rattle.definition.specs.Query.{QueryCall, QueryLists, QueryCounts, query_questions, inside_count, queried, query_lists, answer_at, answers_over, values}
+use Rattle.definition.specs.declared.QueryCounts.{QueryCounts}
+use Rattle.definition.specs.Query.{QueryCall, QueryLists, query_questions, inside_count, queried, query_lists, answer_at, answers_over, values}
 use Rattle.definition.specs.Renumbering.{within, Renumbering, Renumbered, NoNan, TwoQueries, Named, Chosen, SameDistances, QueryKept}
 use Rattle.definition.specs.declared.Point.{Point}
 use Rattle.definition.proofs.Lists.{values_at, values_length, over_at}

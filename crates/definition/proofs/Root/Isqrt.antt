@@ -16,9 +16,6 @@ pub record Whole (s n : ℕ) : Type 0 where
 pub sq_lt_back : (a b : ℕ) → a * a < b * b → a < b
 sq_lt_back a b h = lt_of_not-le (λ (g : b ≤ a). not-le_of_lt h (mul-le-mul g g))
 
-pub double : (r : ℕ) → 2 * r * (2 * r) ≡ 4 * (r * r)
-double r = omega arith
-
 pub whole_unique : (a b n : ℕ) → Whole a n → Whole b n → a ≡ b
 whole_unique a b n p q =
     let u : a < b + 1 = sq_lt_back a (b + 1) (lt_of_le_of_lt p.below q.above) in

@@ -19,19 +19,19 @@ whole a s rest more p = omega arith
 
 pub step-p-requires : goal.step-p-requires
 step-p-requires c =
-    let p = c.loop-j.invariant in
-    let most : c.loop-j.j ≤ 60 = omega arith in
+    let p = c.loop.invariant in
+    let most : c.loop.counter ≤ 60 = omega arith in
     (lt_of_lt_of_le p.few (pow_mono most), p.least, omega arith)
 
-pub loop-j-preserved : goal.loop-j-preserved
-loop-j-preserved c =
-    let l = c.loop-j in
+pub loop-preserved : goal.loop-preserved
+loop-preserved c =
+    let l = c.loop in
     let r = c.step-p.result in
     let e = c.step-p.ensures in
-    turn c.args.a l.p.s l.p.rest l.more l.j r.s r.rest l.invariant c.loop-j-test.true e.0 e.1 e.2
+    turn c.args.a l.p.s l.p.rest l.more l.counter r.s r.rest l.invariant c.loop-test.true e.0 e.1 e.2
 
 pub returns : goal.returns
 returns c =
-    let l = c.loop-j in
-    let last : l.j ≡ 54 = omega arith in
+    let l = c.loop in
+    let last : l.counter ≡ 54 = omega arith in
     whole c.args.a l.p.s l.p.rest l.more (rw last at l.invariant)

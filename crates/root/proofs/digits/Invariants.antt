@@ -1,6 +1,6 @@
 -- `root::digits` meets its contract. The invariant: the digits of a that are taken are s * s + rest, with a rest of at most twice s, and `more` has the others. After 54 turns none is left.
 use mathlib.Core.Path.{◌≡◌}
-use Prim.Native.Nat.{ℕ, ◌+◌, ◌-◌, ◌*◌, ◌^◌, ◌≤◌, ◌<◌}
+use Prim.Native.Nat.{ℕ, ◌+◌, ◌*◌, ◌^◌, ◌≤◌, ◌<◌}
 use Rattle.root.proofs.digits.Given as goal
 
 pub record Taken (a s rest more j : ℕ) : Type 0 where
@@ -10,8 +10,5 @@ pub record Taken (a s rest more j : ℕ) : Type 0 where
   pub few : s < 2 ^ j
   pub small : more < 2 ^ 54
 
-abbrev pub invariant-loop-j : goal.invariant-loop-j
-invariant-loop-j l = Taken l.a l.p.s l.p.rest l.more l.j
-
-abbrev pub decreases-loop-j : goal.decreases-loop-j
-decreases-loop-j l = 54 - l.j
+abbrev pub invariant-loop : goal.invariant-loop
+invariant-loop l = Taken l.a l.p.s l.p.rest l.more l.counter

@@ -41,9 +41,9 @@ found : (s p m q a c : ℕ) → s ≡ p * 2 ^ 54 + m * 2 ^ 28 + q
     → (s < a * 2 ^ 52 + c) × (a * 2 ^ 52 ≤ s + c)
 found s p m q a c e t x y = (omega arith, omega arith)
 
-pub returns : goal.returns
-returns c e =
+pub returns-then-l-k : goal.returns-then-l-k
+returns-then-l-k c e =
     let g = c.args in
     let x = g.c / 2 ^ 27 in
     let y = g.c % 2 ^ 27 in
-    found (g.c * g.c) (x * x) (x * y) (y * y) g.a g.c (square g.c) c.if-top-high.false c.if-k-l.false (leb-true _ _ e)
+    found (g.c * g.c) (x * x) (x * y) (y * y) g.a g.c (square g.c) c.if-top-high.false c.if-l-k.true (leb-true _ _ e)

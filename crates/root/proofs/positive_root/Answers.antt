@@ -3,11 +3,13 @@ use mathlib.Core.Path.{◌≡◌, sym}
 use Prim.Native.Nat.{ℕ, zero, suc, ◌+◌, ◌-◌, ◌*◌, ◌/◌, ◌^◌, ◌≤◌, ◌<◌}
 use native.Mathlib.Nat.{lt_of_le_of_lt}
 use native.Mathlib.Omega.{arith}
-use lib.Ieee.{binary64, of_bits}
+use mathlib.Core.Bool.{not}
+use lib.Dec.{T}
+use lib.Ieee.{binary64, of_bits, nan_bits}
 use Rattle.definition.specs.Root.{isqrt, root_units}
 use Rattle.definition.proofs.Root.Isqrt.{Whole, isqrt_whole, sq_lt_back}
 use Rattle.definition.proofs.Root.Scaled.{Scaled, root_units_at, quad_lt, root_most}
-use Rattle.root.proofs.NotNan.{not_nan}
+use Rattle.std.proofs.lemmas.Float.{not_nan_f64_bits}
 use Rattle.root.proofs.positive_root.Goals as goal
 
 -- ---- c is half the root s of A * 2 ^ 54, rounded
@@ -26,6 +28,9 @@ record Pattern (n p : ℕ) : Type 0 where
   finite : p < 2047 * 2 ^ 52
   exact : of_bits binary64 p ≡ root_units n
 
+number : (n p : ℕ) → Pattern n p → T (not (nan_bits binary64 p))
+number n p q = not_nan_f64_bits p (omega (arith, q.finite))
+
 module _ (n h A : ℕ) (l : h < 1533) (z : Scaled n h A) where
   by_digits : (s : ℕ) → Whole s (A * 2 ^ 54) → Pattern n ((h + 1) * 2 ^ 52 + (s + 1) / 2)
   by_digits s w = record { finite = omega (arith, root_most A s z.most w); exact = sym (root_units_at n h A s z w) }
@@ -39,14 +44,14 @@ module _ (n h A : ℕ) (l : h < 1533) (z : Scaled n h A) where
 
 -- ---- the guess is right
 pub float_from_bits-result : goal.float_from_bits-result
-float_from_bits-result c = not_nan _ (by_guess _ _ _ c.scale-v.ensures.0 c.scale-v.ensures.1 _ c.if-exponent-p.true (c.is_root.ensures c.if-is_root.true)).finite
+float_from_bits-result c = number _ _ (by_guess _ _ _ c.scale-v.ensures.0 c.scale-v.ensures.1 _ c.if-exponent-p.true (c.is_root.ensures c.if-is_root.true))
 
 pub returns-then-is_root : goal.returns-then-is_root
 returns-then-is_root c = (by_guess _ _ _ c.scale-v.ensures.0 c.scale-v.ensures.1 _ c.if-exponent-p.true (c.is_root.ensures c.if-is_root.true)).exact
 
 -- ---- it is not
 pub float_from_bits-result-2 : goal.float_from_bits-result-2
-float_from_bits-result-2 c = not_nan _ (omega (arith, (by_digits _ _ _ c.scale-v.ensures.0 c.scale-v.ensures.1 _ c.digits.ensures).finite))
+float_from_bits-result-2 c = (number _ _ (by_digits _ _ _ c.scale-v.ensures.0 c.scale-v.ensures.1 _ c.digits.ensures))
 
 pub returns : goal.returns
 returns c = (by_digits _ _ _ c.scale-v.ensures.0 c.scale-v.ensures.1 _ c.digits.ensures).exact

@@ -2,13 +2,13 @@
 use mathlib.Core.Path.{◌≡◌, refl, sym, ap, ◌∙◌}
 use mathlib.Core.Bool.{Bool, true, false, true≢false, false≢true}
 use mathlib.Core.Logic.{inl, inr}
-use Prim.Native.Nat.{ℕ, zero, suc, ◌*◌, ◌^◌, ◌≤◌, ◌<◌}
-use native.Mathlib.Nat.{eq-zero-or-pos, lt_irrefl, mul-pos, zero-lt-suc, zero-mul}
+use Prim.Native.Nat.{ℕ, zero, suc, ◌*◌, ◌^◌, ◌<◌}
+use native.Mathlib.Nat.{eq-zero-or-pos, mul-pos, zero-lt-suc, zero-mul}
 use native.Mathlib.Omega.{arith}
 use lib.IntN.{ℤ, pos}
 use lib.Dec.{T}
 use borrow.Author.Tests.{ltb-true, ne_eqb}
-use lib.Ieee.{Float, nan, inf, fin, binary64, up, down, fits, of_bits, to_bits, lt, eq, div}
+use lib.Ieee.{Float, nan, inf, fin, binary64, up, down, fits, of_bits, to_bits, lt, eq}
 use lib.Ieee.Bits.{of_bits-to_bits}
 use lib.Ieee.Digits.{size-le}
 use lib.Ieee.Fits.{up_pos, kept-lt}
@@ -42,15 +42,20 @@ some x f h = elim (eq-zero-or-pos (to_bits binary64 x)) [
 below_infinity : (m : ℕ) (e : ℤ) → T (fits binary64 (fin false m e)) → to_bits binary64 (fin false m e) < 2047 * 2 ^ 52
 below_infinity m e f = let n = in_units (fin false m e) in omega (arith, pattern (fin false m e) tt, size-le n 2098 (counted false m e f).small, kept-lt 53 n)
 
-at_infinity : {x : Float} → Above x → T (fits binary64 x) → 2047 * 2 ^ 52 ≤ to_bits binary64 x → x ≡ root_of x
-unfolding root_of
-at_infinity infinite f l = refl
-at_infinity (finite m e) f l = absurd (omega (arith, below_infinity (suc m) e f))
+finite_pattern : {x : Float} → Above x → T (fits binary64 x) → lt x (of_bits binary64 (2047 * 2 ^ 52)) ≡ true → to_bits binary64 x < 2047 * 2 ^ 52
+unfolding of_bits lt
+finite_pattern infinite f h = absurd (false≢true h)
+finite_pattern (finite m e) f h = below_infinity (suc m) e f
 
-at_finite : {x : Float} → Above x → T (fits binary64 x) → to_bits binary64 x < 2047 * 2 ^ 52 → root_units (in_units (of_bits binary64 (to_bits binary64 x))) ≡ root_of x
-unfolding root_of to_bits
-at_finite infinite f l = absurd (lt_irrefl (2047 * 2 ^ 52) l)
-at_finite (finite m e) f l = ap (λ (y : Float). root_units (in_units y)) (of_bits-to_bits binary64 (fin false (suc m) e) f)
+at_finite : {x : Float} → Above x → T (fits binary64 x) → lt x (of_bits binary64 (2047 * 2 ^ 52)) ≡ true → root_units (in_units (of_bits binary64 (to_bits binary64 x))) ≡ root_of x
+unfolding root_of of_bits lt
+at_finite infinite f h = absurd (false≢true h)
+at_finite (finite m e) f h = ap (λ (y : Float). root_units (in_units y)) (of_bits-to_bits binary64 (fin false (suc m) e) f)
+
+at_infinity : {x : Float} → Above x → lt x (of_bits binary64 (2047 * 2 ^ 52)) ≡ false → x ≡ root_of x
+unfolding root_of of_bits lt
+at_infinity infinite h = refl
+at_infinity (finite m e) h = absurd (true≢false h)
 
 -- ---- not above zero
 at_zero : (x : Float) → eq x (of_bits binary64 0) ≡ true → x ≡ root_of x
@@ -65,8 +70,8 @@ unfolding of_bits eq
 level_zero true e = simp (zero-mul)
 level_zero false e = simp (zero-mul)
 
-at_rest : (x : Float) → lt (of_bits binary64 0) x ≡ false → eq x (of_bits binary64 0) ≡ false → div binary64 (of_bits binary64 0) (of_bits binary64 0) ≡ root_of x
-unfolding of_bits lt eq div root_of
+at_rest : (x : Float) → lt (of_bits binary64 0) x ≡ false → eq x (of_bits binary64 0) ≡ false → of_bits binary64 0x7ff8_0000_0000_0000 ≡ root_of x
+unfolding of_bits lt eq root_of
 at_rest nan l h = refl
 at_rest (inf true) l h = refl
 at_rest (inf false) l h = absurd (true≢false l)
@@ -76,17 +81,17 @@ at_rest (fin false (suc m) e) l h = absurd (rw l at (zero_below false (pos 0) m 
 
 -- ---- the goals
 pub positive_root-requires : goal.positive_root-requires
-positive_root-requires c = (some c.args.x (rw c.well_formed.0.1 tt) c.if-x.true, c.if-b-lt9218868437227405312.true)
-
-pub returns-then-x : goal.returns-then-x
-returns-then-x c = at_infinity (above c.args.x c.if-x.true) (rw c.well_formed.0.1 tt) c.if-b-lt9218868437227405312.false
-
-pub returns-then-b-lt9218868437227405312 : goal.returns-then-b-lt9218868437227405312
-returns-then-b-lt9218868437227405312 c =
-    c.positive_root.ensures ∙ at_finite (above c.args.x c.if-x.true) (rw c.well_formed.0.1 tt) c.if-b-lt9218868437227405312.true
+positive_root-requires c =
+    let f : T (fits binary64 c.args.x) = rw c.well_formed.0.1 tt in (some c.args.x f c.if-x.true, finite_pattern (above c.args.x c.if-x.true) f c.if-x-2.true)
 
 pub returns-then-x-2 : goal.returns-then-x-2
-returns-then-x-2 c = at_zero c.args.x c.if-x-2.true
+returns-then-x-2 c = c.positive_root.ensures ∙ at_finite (above c.args.x c.if-x.true) (rw c.well_formed.0.1 tt) c.if-x-2.true
 
-pub returns : goal.returns
-returns c = at_rest c.args.x c.if-x.false c.if-x-2.false
+pub returns-else-x-2 : goal.returns-else-x-2
+returns-else-x-2 c = at_infinity (above c.args.x c.if-x.true) c.if-x-2.false
+
+pub returns-then-x-3 : goal.returns-then-x-3
+returns-then-x-3 c = at_zero c.args.x c.if-x-3.true
+
+pub returns-else-x-3 : goal.returns-else-x-3
+returns-else-x-3 c = at_rest c.args.x c.if-x.false c.if-x-3.false

@@ -1,39 +1,45 @@
--- `answer_point` meets its contract. The loop's invariant: the element and the face are those of the first minimum of the elements and faces met, with their squares beside the roots. Assumes nothing.
-use mathlib.Core.Path.{◌≡◌, sym}
-use Prim.Native.Nat.{◌/◌}
+-- `answer_point` meets its contract: by the laws of the first minimum, over the elements and over the faces. Assumes nothing.
+use mathlib.Core.Path.{◌≡◌, ◌∙◌}
+use Prim.Native.Nat.{◌+◌, ◌*◌, ◌/◌}
 use native.Mathlib.Omega.{arith}
 use lib.ListN.{length}
-use Rattle.definition.specs.Mesh.{Mesh, element_count}
-use Rattle.choice.proofs.Walk.{walk_begins, first_walked, walked_on, point_answered}
+use Rattle.definition.specs.Choice.{point_answer}
+use Rattle.definition.specs.Search.{closest_reference_point, closest_face_point}
+use Rattle.choice.proofs.Choosing.{first_is}
+use Rattle.choice.proofs.Places.{element_at, face_at, IsFound, face_found}
 use Rattle.choice.proofs.nearest.answer_point.Goals as goal
-
-pub returns-then-count-eq0 : goal.returns-then-count-eq0
-returns-then-count-eq0 c =
-    let a = c.args in
-    let m : Mesh = record { family = a.family; nodes = a.nodes_rz.now; elements = a.elements.now } in
-    let none : 0 ≡ element_count m = rw c.nodes_per_element.ensures.value at (sym c.if-count-eq0.true) in
-    point_answered m a.max_iterations a.target none c.nearest_node_projection-node.ensures (walk_begins m a.max_iterations a.target c.element_coords-first.ensures c.first_nearest-best.ensures) c.projections.ensures
+use Rattle.choice.proofs.nearest.answer_point.Goals.{then-element_index-gt0, else-element_index-gt0}
 
 pub loop-element_index-init : goal.loop-element_index-init
 loop-element_index-init c =
     let a = c.args in
-    let m : Mesh = record { family = a.family; nodes = a.nodes_rz.now; elements = a.elements.now } in
-    let first = c.element_coords-first.ensures in (
-      omega (arith, c.if-count-eq0.false),
-      first_walked m a.max_iterations a.target first (walk_begins m a.max_iterations a.target first c.first_nearest-best.ensures) c.first_faces-best.ensures,
-    )
+    let in_hand : IsFound a.mesh.now a.max_iterations a.target 0 c.bests-found.result = (rw c.element_coords.ensures at c.bests-found.ensures.element, rw c.element_coords.ensures at c.bests-found.ensures.faces) in
+    record {
+      in_hand = λ _. in_hand;
+      nearest_element = first_is (element_at a.mesh.now a.max_iterations a.target) c.new-element.result c.new-element.ensures.0 (c.new-element.ensures.1 ∙ in_hand.0);
+      nearest_face = first_is (face_at a.mesh.now a.max_iterations a.target) c.new-face.result c.new-face.ensures.0 (c.new-face.ensures.1 ∙ face_found a.mesh.now a.max_iterations a.target 0 0 c.bests-found.result _ (omega arith) in_hand);
+    }
 
-pub loop-element_index-preserved : goal.loop-element_index-preserved
-loop-element_index-preserved c =
+pub loop-local_face-preserved : goal.loop-local_face-preserved
+loop-local_face-preserved c =
     let a = c.args in
-    let m : Mesh = record { family = a.family; nodes = a.nodes_rz.now; elements = a.elements.now } in
-    let l = c.loop-element_index in
-    (omega arith, walked_on m a.max_iterations a.target l.element_index c.element_coords-e.ensures l.invariant.1 c.nearer-best.ensures)
+    let i = c.loop-element_index.element_index in
+    let f = c.loop-local_face.local_face in
+    let found : IsFound a.mesh.now a.max_iterations a.target i c.if-element_index-gt0.found =
+    elim c.if-element_index-gt0.branch [
+      | then-element_index-gt0 w ↦ rw (w.found-is, ← w.element_coords-e.ensures) (w.bests-found-then-element_index-gt0.ensures.element, w.bests-found-then-element_index-gt0.ensures.faces)
+      | else-element_index-gt0 w ↦ (let first : i ≡ 0 = omega (arith, w.if-element_index-gt0.false) in rw (w.found-is, first) (c.loop-element_index.invariant.in_hand first))
+    ] in
+    let next : 4 * i + f + 1 ≡ 4 * i + (f + 1) = omega arith in
+    let nearest = c.or_nearer-face.ensures (face_at a.mesh.now a.max_iterations a.target) c.loop-local_face.invariant.nearest_face (face_found a.mesh.now a.max_iterations a.target i f c.if-element_index-gt0.found _ c.loop-local_face-test.true found) in
+    record { nearest_face = rw next at nearest }
 
 pub returns : goal.returns
+unfolding point_answer closest_reference_point closest_face_point
 returns c =
     let a = c.args in
-    let m : Mesh = record { family = a.family; nodes = a.nodes_rz.now; elements = a.elements.now } in
     let l = c.loop-element_index in
-    let all : l.element_index ≡ length a.elements.now / c.nodes_per_element.result = omega arith in
-    point_answered m a.max_iterations a.target (rw c.nodes_per_element.ensures.value at all) c.nearest_node_projection-node.ensures l.invariant.1 c.projections-2.ensures
+    let all : l.element_index ≡ length c.elements.result.now / c.nodes_per_element.result = omega arith in
+    let element = l.invariant.nearest_element in
+    let face = l.invariant.nearest_face in
+    rw (c.nearest_node_projection.ensures, l.element.rooted, l.face.rooted, element.1, face.1, element.0, face.0, all, c.elements.ensures, c.nodes_per_element.ensures.value)

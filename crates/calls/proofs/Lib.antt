@@ -1,0 +1,2 @@
+-- Laws of the calls, which others may cite.
+pub mod Pairs

@@ -1,0 +1,2 @@
+-- What each family's number of nodes comes to, for the families' laws.
+pub mod Nodes

@@ -1,2 +1,0 @@
--- The gathered element that two parameters make.
-pub mod Element

@@ -1,0 +1,82 @@
+-- What a record of each mark has: its bytes, its family and the room that it needs. Assumes nothing.
+use Rattle.std.proofs.Common.{◌≡◌, refl, ap, ◌∙◌, Bool, true, false, cond, ◌&&◌, List, [], ◌∷◌, ◌++◌, ℕ, ◌+◌, ◌*◌, ◌≤◌, leb, eqb, length, get_or, arith, length-append}
+use native.Mathlib.Nat.{one-mul}
+use borrow.Author.Tests.{leb-true, le-leb}
+use Rattle.definition.specs.Elements.{nodes_of}
+use Rattle.definition.specs.Job.{Mark, head, node, element, point, unknown, is_head, Job, empty_job, record_bytes, little, pair_bits, row_of, taken, within_limits}
+use Rattle.definition.proofs.Lists.{each_more, each_length, and_parts}
+use Rattle.records.specs.Reading.{room_for}
+
+-- the nodes of an element, and the bytes of a record
+pub nodes_few : (family : ℕ) → nodes_of family ≤ 9
+unfolding nodes_of
+nodes_few family = by (eqb family 9)
+  where
+    by : (b : Bool) → cond b 9 4 ≤ 9
+    by true = omega arith
+    by false = omega arith
+
+pub record_some : (m : Mark) (family : ℕ) → 2 ≤ record_bytes m family
+unfolding record_bytes
+record_some head family = omega arith
+record_some node family = omega arith
+record_some element family = omega arith
+record_some point family = omega arith
+record_some unknown family = omega arith
+
+-- ---- the lengths of the lists
+
+pub pair_length : (bytes : List ℕ) (at : ℕ) (l : List ℕ) → length (l ++ pair_bits bytes at) ≡ length l + 2
+unfolding pair_bits
+pair_length bytes at l = length-append l _
+
+pub row_length : (bytes : List ℕ) (at n : ℕ) (l : List ℕ) → length (l ++ row_of bytes at n) ≡ length l + n
+unfolding row_of
+row_length bytes at n l = length-append l _ ∙ ap (λ k. length l + k) (each_length (λ k. little bytes (at + 4 * k) 4 ∷ []) (λ i h. refl) ∙ one-mul n)
+
+-- one number more of a row
+pub row_next : (bytes : List ℕ) (at k : ℕ) → row_of bytes at (k + 1) ≡ row_of bytes at k ++ little bytes (at + 4 * k) 4 ∷ []
+unfolding row_of
+row_next bytes at k = each_more _ k
+
+limits_parts : (j : Job) → within_limits j ≡ true → (leb (length j.nodes) 1024 ≡ true) × (leb (length j.elements) (nodes_of j.family * 256) ≡ true) × (leb (length j.points) 512 ≡ true)
+limits_parts j h =
+    let (most, points) = and_parts _ _ h in
+    let (nodes, elements) = and_parts _ _ most in
+    (nodes, elements, points)
+
+pub limits_bound : (j : Job) → within_limits j ≡ true → (length j.nodes ≤ 1024) × (length j.elements ≤ 2304) × (length j.points ≤ 512)
+limits_bound j h =
+    let (nodes, elements, points) = limits_parts j h in
+    let e : length j.elements ≤ nodes_of j.family * 256 = leb-true _ _ elements in
+    (leb-true _ _ nodes, omega (arith, nodes_few j.family), leb-true _ _ points)
+
+-- the empty job holds the limits
+pub start_within : within_limits empty_job ≡ true
+unfolding nodes_of
+start_within = refl
+
+-- where the job holds the limits, and the QF comes first, the room for a record decides whether they hold with it
+pub room_is : (m : Mark) (bytes : List ℕ) (at : ℕ) (j : Job) → within_limits j ≡ true → (is_head m ≡ true → j ≡ empty_job) → room_for m j ≡ within_limits (taken m bytes at j)
+unfolding taken
+room_is head bytes at j w first =
+    let f = get_or bytes (at + 2) 0 in
+    rw (first refl, le-leb 0 (nodes_of f * 256) (omega arith))
+room_is node bytes at j w first =
+    let (nodes, elements, points) = limits_parts j w in
+    rw (pair_length, elements, points) (by (leb (length j.nodes + 2) 1024))
+  where
+    by : (b : Bool) → b ≡ b && true && true
+    by true = refl
+    by false = refl
+room_is element bytes at j w first =
+    let (nodes, elements, points) = limits_parts j w in
+    rw (row_length, nodes, points) (by (leb (length j.elements + nodes_of j.family) (nodes_of j.family * 256)))
+  where
+    by : (b : Bool) → b ≡ true && b && true
+    by true = refl
+    by false = refl
+room_is point bytes at j w first =
+    let (nodes, elements, points) = limits_parts j w in
+    rw (pair_length, nodes, elements)
+room_is unknown bytes at j w first = rw w
