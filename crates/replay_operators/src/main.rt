@@ -101,8 +101,8 @@ impl Number for f64 {
 struct Case {
     operator: OperatorKind,
     family: u8,
+    // Kept: numbers beside the thickness and the list of pairs, as the C interface takes them.
     formulation: u8,
-    // Kept: a number beside the list of pairs, as the C interface takes them.
     pairs_given: u8,
     thickness: f64,
     nodes_rz: ArrayVec<f64, 256>,
@@ -259,6 +259,7 @@ impl Lent {
     }
 
     // Prints the line of an answer, of which question 0 means that it is built; the lines of the triplets; and whether all places after them are as they were lent.
+    // Kept: the question as a number, as the C interface answers.
     fn print(&self, rt: &impl Print, answer: OperatorNumbers) -> io::Result<()> {
         let OperatorNumbers {
             question,
