@@ -1,5 +1,6 @@
 -- What a record of each mark has: its bytes, its family and the room that it needs. Assumes nothing.
-use Rattle.std.proofs.Common.{◌≡◌, refl, ap, ◌∙◌, Bool, true, false, cond, ◌&&◌, List, [], ◌∷◌, ◌++◌, ℕ, ◌+◌, ◌*◌, ◌≤◌, leb, eqb, length, get_or, arith, length-append}
+use Rattle.std.proofs.Common.{◌≡◌, refl, ap, ◌∙◌, Bool, true, false, cond, List, [], ◌∷◌, ◌++◌, ℕ, ◌+◌, ◌*◌, ◌≤◌, leb, eqb, length, get_or, arith, length-append}
+use Rattle.std.proofs.Math.Bool.{true-and, and-true}
 use native.Mathlib.Nat.{one-mul}
 use borrow.Author.Tests.{leb-true, le-leb}
 use Rattle.definition.specs.Elements.{nodes_of}
@@ -64,18 +65,10 @@ room_is head bytes at j w first =
     rw (first refl, le-leb 0 (nodes_of f * 256) (omega arith))
 room_is node bytes at j w first =
     let (nodes, elements, points) = limits_parts j w in
-    rw (pair_length, elements, points) (by (leb (length j.nodes + 2) 1024))
-  where
-    by : (b : Bool) → b ≡ b && true && true
-    by true = refl
-    by false = refl
+    simp (pair_length, elements, points, and-true) refl
 room_is element bytes at j w first =
     let (nodes, elements, points) = limits_parts j w in
-    rw (row_length, nodes, points) (by (leb (length j.elements + nodes_of j.family) (nodes_of j.family * 256)))
-  where
-    by : (b : Bool) → b ≡ true && b && true
-    by true = refl
-    by false = refl
+    simp (row_length, nodes, points, true-and, and-true) refl
 room_is point bytes at j w first =
     let (nodes, elements, points) = limits_parts j w in
     rw (pair_length, nodes, elements)
