@@ -6,7 +6,7 @@ use mathlib.Core.List.{List, [], ◌∷◌, ◌++◌, append-nil}
 use Prim.Native.Nat.{ℕ, zero, suc, ◌<◌}
 use native.Mathlib.Nat.{le_of_suc-le-suc, not-suc-le-zero, eq-or-lt_of_le}
 use Rattle.definition.specs.Lists.{each, every}
-use Rattle.definition.specs.Questions.{Question, Outcome, accepted, refused, asked, onward}
+use Rattle.definition.specs.Questions.{Question, accepted, refused, asked, onward}
 
 -- whether all questions of a list hold
 unfoldable pub passes : List Question → Bool
@@ -56,10 +56,6 @@ asked_append (q ∷ qs) rs v =
       | true ↦ asked_append qs rs v
       | false ↦ refl
     ]
-
--- o is what the questions qs come to, p what they and rs come to
-pub asked_then : (qs rs : List Question) {o p : Outcome (Unit {0})} → o ≡ asked qs tt → p ≡ onward o (asked rs tt) → p ≡ asked (qs ++ rs) tt
-asked_then qs rs e f = f ∙ ap (λ o. onward o (asked rs tt)) e ∙ sym (asked_append qs rs tt)
 
 -- the value is handed out only where all hold
 pub asked_value : {A : Type 0} (qs : List Question) (v : A) → asked qs v ≡ onward (asked qs (tt {0})) (accepted v)

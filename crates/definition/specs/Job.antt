@@ -10,6 +10,8 @@ use Rattle.definition.specs.Binary64.{plus0}
 use Rattle.definition.specs.Elements.{nodes_of}
 use Rattle.definition.specs.Questions.{Question, ask, Outcome, accepted, refused, asked, outcome, is_family}
 use Rattle.definition.specs.Query.{QueryCall, QueryLists, answer_at, queried}
+use Rattle.definition.specs.declared.Mark.{Mark}
+use Rattle.definition.specs.declared.Mark.TheVariants.{Head, Node, Element, Point, Unknown}
 use Rattle.definition.specs.declared.PointAnswer.{PointAnswer}
 use Rattle.definition.specs.declared.QueryCounts.{QueryCounts}
 use Rattle.definition.specs.declared.Refusal.{Refusal}
@@ -21,41 +23,38 @@ text (String.◌∷◌ c s) = code c ∷ text s
 
 -- ---- the records: "Every record begins with a two-byte ASCII mark; numbers little-endian. QF: family u8, iterations u16. QN: two f64. QE: F u32. QP: two f64."
 
-pub data Mark : Type 0 where
-  head node element point unknown : Mark
-
 -- F 70, N 78, E 69, P 80, after Q 81
 unfoldable pub mark_of : ℕ → ℕ → Mark
 mark_of q letter =
     cond (eqb q 81)
-    (cond (eqb letter 70) head (cond (eqb letter 78) node (cond (eqb letter 69) element (cond (eqb letter 80) point unknown))))
-    unknown
+    (cond (eqb letter 70) Head (cond (eqb letter 78) Node (cond (eqb letter 69) Element (cond (eqb letter 80) Point Unknown))))
+    Unknown
 
 -- the mark at a place; a mark of one byte is not whole, and so unknown
 unfoldable pub mark_at : List ℕ → ℕ → Mark
-mark_at bytes at = cond (leb (at + 2) (length bytes)) (mark_of (get_or bytes at 0) (get_or bytes (at + 1) 0)) unknown
+mark_at bytes at = cond (leb (at + 2) (length bytes)) (mark_of (get_or bytes at 0) (get_or bytes (at + 1) 0)) Unknown
 
 abbrev pub is_known : Mark → Bool
-is_known head = true
-is_known node = true
-is_known element = true
-is_known point = true
-is_known unknown = false
+is_known Head = true
+is_known Node = true
+is_known Element = true
+is_known Point = true
+is_known Unknown = false
 
 abbrev pub is_head : Mark → Bool
-is_head head = true
-is_head node = false
-is_head element = false
-is_head point = false
-is_head unknown = false
+is_head Head = true
+is_head Node = false
+is_head Element = false
+is_head Point = false
+is_head Unknown = false
 
 -- the bytes of a record, its mark among them
 unfoldable pub record_bytes : Mark → ℕ → ℕ
-record_bytes head family = 5
-record_bytes node family = 18
-record_bytes element family = 2 + 4 * nodes_of family
-record_bytes point family = 18
-record_bytes unknown family = 2
+record_bytes Head family = 5
+record_bytes Node family = 18
+record_bytes Element family = 2 + 4 * nodes_of family
+record_bytes Point family = 18
+record_bytes Unknown family = 2
 
 -- the number of n bytes from a place on, least byte first
 unfoldable pub little : List ℕ → ℕ → ℕ → ℕ
@@ -82,20 +81,20 @@ row_of bytes at n = each (λ k. little bytes (at + 4 * k) 4 ∷ []) n
 
 -- the job with the record at a place
 unfoldable pub taken : Mark → List ℕ → ℕ → Job → Job
-taken head bytes at j = record { family = get_or bytes (at + 2) 0; iterations = little bytes (at + 3) 2; nodes = j.nodes; elements = j.elements; points = j.points }
-taken node bytes at j = record { family = j.family; iterations = j.iterations; nodes = j.nodes ++ pair_bits bytes (at + 2); elements = j.elements; points = j.points }
-taken element bytes at j = record { family = j.family; iterations = j.iterations; nodes = j.nodes; elements = j.elements ++ row_of bytes (at + 2) (nodes_of j.family); points = j.points }
-taken point bytes at j = record { family = j.family; iterations = j.iterations; nodes = j.nodes; elements = j.elements; points = j.points ++ pair_bits bytes (at + 2) }
-taken unknown bytes at j = j
+taken Head bytes at j = record { family = get_or bytes (at + 2) 0; iterations = little bytes (at + 3) 2; nodes = j.nodes; elements = j.elements; points = j.points }
+taken Node bytes at j = record { family = j.family; iterations = j.iterations; nodes = j.nodes ++ pair_bits bytes (at + 2); elements = j.elements; points = j.points }
+taken Element bytes at j = record { family = j.family; iterations = j.iterations; nodes = j.nodes; elements = j.elements ++ row_of bytes (at + 2) (nodes_of j.family); points = j.points }
+taken Point bytes at j = record { family = j.family; iterations = j.iterations; nodes = j.nodes; elements = j.elements; points = j.points ++ pair_bits bytes (at + 2) }
+taken Unknown bytes at j = j
 
 -- ---- its questions: "For each record: is the mark whole and known? (18) Is QF first and only first? (19; also for an empty file) Is the body whole? (20) Family 4 or 9? (1) At most 512 nodes, 256 elements, 256 points? (21) Place: record index from 0."
 
 abbrev pub family_read : Mark → List ℕ → ℕ → Bool
-family_read head bytes at = is_family (get_or bytes (at + 2) 0)
-family_read node bytes at = true
-family_read element bytes at = true
-family_read point bytes at = true
-family_read unknown bytes at = true
+family_read Head bytes at = is_family (get_or bytes (at + 2) 0)
+family_read Node bytes at = true
+family_read Element bytes at = true
+family_read Point bytes at = true
+family_read Unknown bytes at = true
 
 -- whether the job with the record is within the limits
 abbrev pub within_limits : Job → Bool

@@ -1,4 +1,4 @@
-// The plain types that the crates share. specs/ is the written definition and proofs/ what holds it; the one function here gives a question's number.
+// The plain types that the crates share. specs/ is the written definition and proofs/ what holds it; the two functions here give a question's number, and the reference of a face's place.
 #![tactic(auto)]
 
 ghost use Rattle.std.specs.Prelude.{◌≡◌};
@@ -25,6 +25,17 @@ pub struct FaceReference {
     pub eta: f64,
     pub dxi: f64,
     pub deta: f64,
+}
+
+impl From<FaceReference> for Reference {
+    ghost from_gives = { λ f r. r ≡ record { xi = f.xi; eta = f.eta } };
+
+    fn from(f: FaceReference) -> Reference {
+        Reference {
+            xi: f.xi,
+            eta: f.eta,
+        }
+    }
 }
 
 // The Jacobian: xxi is dx / dxi, xeta is dx / deta, yxi is dy / dxi, yeta is dy / deta. The Rust's `jac[0][0]`, `jac[0][1]`, `jac[1][0]`, `jac[1][1]`.
@@ -151,6 +162,16 @@ impl QuestionKind {
 pub struct Refusal {
     pub question: QuestionKind,
     pub place: usize,
+}
+
+// The kinds of records of a job file, by their marks: QF, QN, QE, QP, and any other.
+#[derive(Clone, Copy, PartialEq, Eq)]
+pub enum Mark {
+    Head,
+    Node,
+    Element,
+    Point,
+    Unknown,
 }
 
 // The numbers of an accepted query: how many points it answered, how many elements repeat a node and how many points lie inside.

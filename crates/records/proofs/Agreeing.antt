@@ -7,17 +7,19 @@ use borrow.Author.Tests.{le-leb}
 use lib.Dec.{leb}
 use lib.ListN.{length, get_or}
 use Rattle.definition.specs.Elements.{nodes_of}
-use Rattle.definition.specs.Job.{Mark, head, node, element, point, unknown, Job, mark_at, record_bytes, little, pair_bits, row_of, taken, family_read, record_questions}
+use Rattle.definition.specs.declared.Mark.{Mark}
+use Rattle.definition.specs.declared.Mark.TheVariants.{Head, Node, Element, Point, Unknown}
+use Rattle.definition.specs.Job.{Job, mark_at, record_bytes, little, pair_bits, row_of, taken, family_read, record_questions}
 use Rattle.definition.proofs.Lists.{each_same}
 use Rattle.records.proofs.Marks.{nodes_few}
 
 pub record_most : (m : Mark) (family : ℕ) → record_bytes m family ≤ 38
 unfolding record_bytes
-record_most head family = omega arith
-record_most node family = omega arith
-record_most element family = omega (arith, nodes_few family)
-record_most point family = omega arith
-record_most unknown family = omega arith
+record_most Head family = omega arith
+record_most Node family = omega arith
+record_most Element family = omega (arith, nodes_few family)
+record_most Point family = omega arith
+record_most Unknown family = omega arith
 
 module _ (a b : List ℕ) (end : ℕ) (agree : (i : ℕ) → i < end → get_or a i 0 ≡ get_or b i 0) (in_a : end ≤ length a) (in_b : end ≤ length b) where
   little_same : (at n : ℕ) → at + n ≤ end → little a at n ≡ little b at n
@@ -41,18 +43,18 @@ module _ (a b : List ℕ) (end : ℕ) (agree : (i : ℕ) → i < end → get_or 
 
     pub taken_same : (m : Mark) (j : Job) → taken m a at j ≡ taken m b at j
     unfolding taken
-    taken_same head j = rw (agree (at + 2) (omega arith), little_same (at + 3) 2 (omega arith))
-    taken_same node j = rw pair_same
-    taken_same element j = rw (row_same j.family)
-    taken_same point j = rw pair_same
-    taken_same unknown j = refl
+    taken_same Head j = rw (agree (at + 2) (omega arith), little_same (at + 3) 2 (omega arith))
+    taken_same Node j = rw pair_same
+    taken_same Element j = rw (row_same j.family)
+    taken_same Point j = rw pair_same
+    taken_same Unknown j = refl
 
     family_same : (m : Mark) → family_read m a at ≡ family_read m b at
-    family_same head = rw (agree (at + 2) (omega arith))
-    family_same node = refl
-    family_same element = refl
-    family_same point = refl
-    family_same unknown = refl
+    family_same Head = rw (agree (at + 2) (omega arith))
+    family_same Node = refl
+    family_same Element = refl
+    family_same Point = refl
+    family_same Unknown = refl
 
     whole_same : (m : Mark) (family : ℕ) → leb (at + record_bytes m family) (length a) ≡ leb (at + record_bytes m family) (length b)
     whole_same m family = rw (le-leb (at + record_bytes m family) (length a) (omega (arith, record_most m family)), le-leb (at + record_bytes m family) (length b) (omega (arith, record_most m family)))

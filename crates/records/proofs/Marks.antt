@@ -4,7 +4,9 @@ use Rattle.std.proofs.Math.Bool.{true-and, and-true}
 use native.Mathlib.Nat.{one-mul}
 use borrow.Author.Tests.{leb-true, le-leb}
 use Rattle.definition.specs.Elements.{nodes_of}
-use Rattle.definition.specs.Job.{Mark, head, node, element, point, unknown, is_head, Job, empty_job, record_bytes, little, pair_bits, row_of, taken, within_limits}
+use Rattle.definition.specs.declared.Mark.{Mark}
+use Rattle.definition.specs.declared.Mark.TheVariants.{Head, Node, Element, Point, Unknown}
+use Rattle.definition.specs.Job.{is_head, Job, empty_job, record_bytes, little, pair_bits, row_of, taken, within_limits}
 use Rattle.definition.proofs.Lists.{each_more, each_length, and_parts}
 use Rattle.records.specs.Reading.{room_for}
 
@@ -19,11 +21,11 @@ nodes_few family = by (eqb family 9)
 
 pub record_some : (m : Mark) (family : ℕ) → 2 ≤ record_bytes m family
 unfolding record_bytes
-record_some head family = omega arith
-record_some node family = omega arith
-record_some element family = omega arith
-record_some point family = omega arith
-record_some unknown family = omega arith
+record_some Head family = omega arith
+record_some Node family = omega arith
+record_some Element family = omega arith
+record_some Point family = omega arith
+record_some Unknown family = omega arith
 
 -- ---- the lengths of the lists
 
@@ -60,16 +62,16 @@ start_within = refl
 -- where the job holds the limits, and the QF comes first, the room for a record decides whether they hold with it
 pub room_is : (m : Mark) (bytes : List ℕ) (at : ℕ) (j : Job) → within_limits j ≡ true → (is_head m ≡ true → j ≡ empty_job) → room_for m j ≡ within_limits (taken m bytes at j)
 unfolding taken
-room_is head bytes at j w first =
+room_is Head bytes at j w first =
     let f = get_or bytes (at + 2) 0 in
     rw (first refl, le-leb 0 (nodes_of f * 256) (omega arith))
-room_is node bytes at j w first =
+room_is Node bytes at j w first =
     let (nodes, elements, points) = limits_parts j w in
     simp (pair_length, elements, points, and-true) refl
-room_is element bytes at j w first =
+room_is Element bytes at j w first =
     let (nodes, elements, points) = limits_parts j w in
     simp (row_length, nodes, points, true-and, and-true) refl
-room_is point bytes at j w first =
+room_is Point bytes at j w first =
     let (nodes, elements, points) = limits_parts j w in
     rw (pair_length, nodes, elements)
-room_is unknown bytes at j w first = rw w
+room_is Unknown bytes at j w first = rw w

@@ -3,7 +3,9 @@ use Rattle.std.proofs.Common.{◌≡◌, refl, sym, ◌∙◌, Bool, true, false
 use Rattle.std.specs.Bool.{beq}
 use borrow.Author.Tests.{leb-true, eqb-true, ltb-true}
 use Rattle.definition.specs.Questions.{Question, accepted, refused, ask, asked, is_family}
-use Rattle.definition.specs.Job.{Mark, head, node, element, point, unknown, is_known, is_head, Job, empty_job, mark_at, record_bytes, record_questions, taken, family_read, within_limits, read_from, read_job}
+use Rattle.definition.specs.declared.Mark.{Mark}
+use Rattle.definition.specs.declared.Mark.TheVariants.{Head, Node, Element, Point, Unknown}
+use Rattle.definition.specs.Job.{is_known, is_head, Job, empty_job, mark_at, record_bytes, record_questions, taken, family_read, within_limits, read_from, read_job}
 use Rattle.definition.proofs.Lists.{and_parts}
 use Rattle.definition.proofs.Passing.{passes, asked_accepted, asked_value}
 use Rattle.records.proofs.Marks.{record_some, limits_bound, start_within, room_is}
@@ -46,11 +48,11 @@ later (suc n) h = omega arith
 
 family_next : (m : Mark) (bytes : List ℕ) (at index : ℕ) (j : Job) → (0 < index → is_family j.family ≡ true) → beq (is_head m) (eqb index 0) ≡ true → family_read m bytes at ≡ true → is_family (taken m bytes at j).family ≡ true
 unfolding taken
-family_next head bytes at index j known placed named = named
-family_next node bytes at index j known placed named = known (later index placed)
-family_next element bytes at index j known placed named = known (later index placed)
-family_next point bytes at index j known placed named = known (later index placed)
-family_next unknown bytes at index j known placed named = known (later index placed)
+family_next Head bytes at index j known placed named = named
+family_next Node bytes at index j known placed named = known (later index placed)
+family_next Element bytes at index j known placed named = known (later index placed)
+family_next Point bytes at index j known placed named = known (later index placed)
+family_next Unknown bytes at index j known placed named = known (later index placed)
 
 -- ---- what is left to read
 

@@ -11,7 +11,9 @@ use lib.Dec.{leb, eqb}
 use lib.ListN.{length}
 use Rattle.definition.specs.Elements.{nodes_of}
 use Rattle.definition.specs.Questions.{accepted, asked}
-use Rattle.definition.specs.Job.{Mark, head, node, element, point, unknown, is_known, is_head, Job, empty_job, mark_at, record_bytes, taken, family_read, within_limits, record_questions}
+use Rattle.definition.specs.declared.Mark.{Mark}
+use Rattle.definition.specs.declared.Mark.TheVariants.{Head, Node, Element, Point, Unknown}
+use Rattle.definition.specs.Job.{is_known, is_head, Job, empty_job, mark_at, record_bytes, taken, family_read, within_limits, record_questions}
 use Rattle.definition.proofs.Lists.{and_parts}
 use Rattle.definition.proofs.Passing.{passes, asked_accepted}
 use Rattle.records.proofs.Marks.{pair_length, row_length}
@@ -54,12 +56,12 @@ spent_start = record { slow = omega arith; start = λ e. (refl, refl); count = 0
 
 spent_next : (m : Mark) (bytes : List ℕ) {at index : ℕ} {j : Job} → Spent at index j → is_known m ≡ true → beq (is_head m) (eqb index 0) ≡ true → Spent (at + record_bytes m j.family) (suc index) (taken m bytes at j)
 unfolding record_bytes taken
-spent_next head bytes {at} {index} s known placed =
+spent_next Head bytes {at} {index} s known placed =
     let (none, empty) = s.start (head_first index placed refl) in
     record { slow = omega (arith, s.slow); start = λ e. absurd (omega arith); count = 0; rows = omega arith; bytes = omega arith }
-spent_next node bytes {at} {index} {j} s known placed =
+spent_next Node bytes {at} {index} {j} s known placed =
     record { slow = omega (arith, s.slow); start = λ e. absurd (omega arith); count = s.count; rows = s.rows; bytes = rw (pair_length bytes (at + 2) j.nodes) (omega (arith, s.bytes)) }
-spent_next element bytes {at} {index} {j} s known placed =
+spent_next Element bytes {at} {index} {j} s known placed =
     let f = nodes_of j.family in
     record {
       slow = omega (arith, s.slow);
@@ -68,9 +70,9 @@ spent_next element bytes {at} {index} {j} s known placed =
       rows = rw (row_length bytes (at + 2) f j.elements, mul-suc f s.count) (omega (arith, s.rows));
       bytes = rw (mul-suc (2 + 4 * f) s.count) (omega (arith, s.bytes));
     }
-spent_next point bytes {at} {index} {j} s known placed =
+spent_next Point bytes {at} {index} {j} s known placed =
     record { slow = omega (arith, s.slow); start = λ e. absurd (omega arith); count = s.count; rows = s.rows; bytes = rw (pair_length bytes (at + 2) j.points) (omega (arith, s.bytes)) }
-spent_next unknown bytes s known placed = absurd (let z : ◌≡◌ {A = ℕ} 0 1 = cc in omega arith)
+spent_next Unknown bytes s known placed = absurd (let z : ◌≡◌ {A = ℕ} 0 1 = cc in omega arith)
 
 -- a record that passes leaves the job within the limits
 pub spent_on : (bytes : List ℕ) (at index : ℕ) {j k : Job} → Spent at index j → asked (record_questions bytes at index j) (taken (mark_at bytes at) bytes at j) ≡ accepted k → Spent (at + record_bytes (mark_at bytes at) j.family) (suc index) k × (within_limits k ≡ true)

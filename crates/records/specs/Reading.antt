@@ -1,25 +1,18 @@
--- A record's kind in the definition's words, the room that it needs in a job, and what is known of a job that was read.
+-- The room that a record needs in a job, and what is known of a job that was read.
 use Rattle.std.specs.Prelude.{◌≡◌, Bool, true, ◌+◌, ◌*◌, ◌≤◌, ◌<◌, leb, length}
 use Rattle.definition.specs.Elements.{nodes_of}
 use Rattle.definition.specs.Questions.{is_family}
-use Rattle.definition.specs.Job.{Mark, head, node, element, point, unknown, Job}
-use Rattle.records.specs.declared.Kind.{Kind}
-use Rattle.records.specs.declared.Kind.TheVariants.{Head, Node, Element, Point, Unknown}
-
-abbrev pub mark_for : Kind → Mark
-mark_for Head = head
-mark_for Node = node
-mark_for Element = element
-mark_for Point = point
-mark_for Unknown = unknown
+use Rattle.definition.specs.declared.Mark.{Mark}
+use Rattle.definition.specs.declared.Mark.TheVariants.{Head, Node, Element, Point, Unknown}
+use Rattle.definition.specs.Job.{Job}
 
 -- whether a job that holds the limits holds them with a record more
 abbrev pub room_for : Mark → Job → Bool
-room_for head j = true
-room_for node j = leb (length j.nodes + 2) 1024
-room_for element j = leb (length j.elements + nodes_of j.family) (nodes_of j.family * 256)
-room_for point j = leb (length j.points + 2) 512
-room_for unknown j = true
+room_for Head j = true
+room_for Node j = leb (length j.nodes + 2) 1024
+room_for Element j = leb (length j.elements + nodes_of j.family) (nodes_of j.family * 256)
+room_for Point j = leb (length j.points + 2) 512
+room_for Unknown j = true
 
 -- the bounds of a job that was read: those of its family, of a u16, and of its lists
 pub record Bounded (j : Job) : Type 0 where

@@ -6,33 +6,23 @@ ghost use Rattle.std.specs.Prelude.{◌≡◌, true, ◌++◌, ◌+◌, ◌*◌,
 ghost use Rattle.definition.specs.Questions.{asked, outcome};
 ghost use Rattle.definition.specs.Job.{mark_at, is_known, is_head, family_read, record_bytes, pair_bits, row_of, taken, within_limits, record_questions, empty_job, read_job};
 ghost use Rattle.arrayvec.specs.ArrayVec.{array_vec_len};
-ghost use Rattle.records.specs.Reading.{mark_for, room_for, Bounded};
+ghost use Rattle.records.specs.Reading.{room_for, Bounded};
 
 use arrayvec::ArrayVec;
 use asking::ask;
-use definition::{QuestionKind, Refusal};
+use definition::{Mark, QuestionKind, Refusal};
 use std::marker::Model;
 
 // ---- one record
-
-// The kind of a record, by its mark: QF, QN, QE, QP, and any other.
-#[derive(Clone, Copy, PartialEq, Eq)]
-enum Kind {
-    Head,
-    Node,
-    Element,
-    Point,
-    Unknown,
-}
 
 // The record at a place of a job's bytes.
 #[derive(Drop)]
 struct Record<'a> {
     bytes: &'a [u8],
     at: usize,
-    kind: Kind,
+    mark: Mark,
     ghost inside: { at ≤ length bytes.now },
-    ghost mark: { mark_for kind ≡ mark_at bytes.now at },
+    ghost read: { mark ≡ mark_at bytes.now at },
 }
 
 impl<'a> Record<'a> {
@@ -42,49 +32,49 @@ impl<'a> Record<'a> {
         requires { at ≤ length bytes.now }
         ensures { (result.bytes.now ≡ bytes.now) × (result.at ≡ at) }
     {
-        let kind = match &bytes[at..] {
-            [b'Q', b'F', ..] => Kind::Head,
-            [b'Q', b'N', ..] => Kind::Node,
-            [b'Q', b'E', ..] => Kind::Element,
-            [b'Q', b'P', ..] => Kind::Point,
-            _ => Kind::Unknown,
+        let mark = match &bytes[at..] {
+            [b'Q', b'F', ..] => Mark::Head,
+            [b'Q', b'N', ..] => Mark::Node,
+            [b'Q', b'E', ..] => Mark::Element,
+            [b'Q', b'P', ..] => Mark::Point,
+            _ => Mark::Unknown,
         };
-        Record { bytes, at, kind }
+        Record { bytes, at, mark }
     }
 
     fn is_known(&self) -> bool
-        ensures { result ≡ is_known (mark_for self.now.kind) }
+        ensures { result ≡ is_known self.now.mark }
     {
-        self.kind != Kind::Unknown
+        self.mark != Mark::Unknown
     }
 
     fn is_head(&self) -> bool
-        ensures { result ≡ is_head (mark_for self.now.kind) }
+        ensures { result ≡ is_head self.now.mark }
     {
-        self.kind == Kind::Head
+        self.mark == Mark::Head
     }
 
     // Its bytes, its mark among them.
     #[tactic(auto, unfolding(definition::specs::Job::record_bytes))]
     fn size(&self, family: usize) -> usize
-        ensures value { result ≡ record_bytes (mark_for self.now.kind) family }
+        ensures value { result ≡ record_bytes self.now.mark family }
         ensures bounds { (2 ≤ result) × (result ≤ 38) }
     {
-        match self.kind {
-            Kind::Head => 5,
-            Kind::Node | Kind::Point => 18,
-            Kind::Element => 2 + 4 * elements::nodes_per_element(family),
-            Kind::Unknown => 2,
+        match self.mark {
+            Mark::Head => 5,
+            Mark::Node | Mark::Point => 18,
+            Mark::Element => 2 + 4 * elements::nodes_per_element(family),
+            Mark::Unknown => 2,
         }
     }
 
     // Whether a QF names a family, 4 or 9. The other kinds name none.
     fn names_family(&self) -> bool
-        ensures { result ≡ family_read (mark_for self.now.kind) self.now.bytes.now self.now.at }
+        ensures { result ≡ family_read self.now.mark self.now.bytes.now self.now.at }
     {
-        match self.kind {
-            Kind::Head => elements::is_family(lists::get_or(self.bytes, self.at + 2, 0) as usize),
-            Kind::Node | Kind::Element | Kind::Point | Kind::Unknown => true,
+        match self.mark {
+            Mark::Head => elements::is_family(lists::get_or(self.bytes, self.at + 2, 0) as usize),
+            Mark::Node | Mark::Element | Mark::Point | Mark::Unknown => true,
         }
     }
 
@@ -188,17 +178,17 @@ impl Job {
 
     // Whether there is room for a record of this kind: at most 512 nodes, 256 elements and 256 points.
     #[tactic(auto, unfolding(definition::specs::Elements::nodes_of))]
-    fn has_room(&self, kind: Kind) -> bool
-        ensures { result ≡ room_for (mark_for kind) self.now }
+    fn has_room(&self, mark: Mark) -> bool
+        ensures { result ≡ room_for mark self.now }
     {
-        match kind {
-            Kind::Node => self.nodes.len() + 2 <= 1024,
-            Kind::Element => {
+        match mark {
+            Mark::Node => self.nodes.len() + 2 <= 1024,
+            Mark::Element => {
                 let f = elements::nodes_per_element(self.family as usize);
                 self.elements.len() + f <= f * 256
             }
-            Kind::Point => self.points.len() + 2 <= 512,
-            Kind::Head | Kind::Unknown => true,
+            Mark::Point => self.points.len() + 2 <= 512,
+            Mark::Head | Mark::Unknown => true,
         }
     }
 
@@ -222,29 +212,29 @@ impl Job {
             index,
         )?;
         ask(next.names_family(), QuestionKind::FamilyKnown, index)?;
-        ask(self.has_room(next.kind), QuestionKind::WithinLimits, index)
+        ask(self.has_room(next.mark), QuestionKind::WithinLimits, index)
     }
 
     // Takes a record, which has passed its questions.
     #[tactic(auto, unfolding(definition::specs::Job::record_bytes, definition::specs::Job::taken))]
     fn take(&mut self, next: &Record)
-        requires whole { next.now.at + record_bytes (mark_for next.now.kind) self.old.family ≤ length next.now.bytes.now }
-        requires room { room_for (mark_for next.now.kind) self.old ≡ true }
-        ensures value { self.new ≡ taken (mark_for next.now.kind) next.now.bytes.now next.now.at self.old }
+        requires whole { next.now.at + record_bytes next.now.mark self.old.family ≤ length next.now.bytes.now }
+        requires room { room_for next.now.mark self.old ≡ true }
+        ensures value { self.new ≡ taken next.now.mark next.now.bytes.now next.now.at self.old }
         ensures iterations_bound { self.new.iterations < 65536 }
     {
-        match next.kind {
-            Kind::Head => {
+        match next.mark {
+            Mark::Head => {
                 self.family = next.bytes[next.at + 2];
                 self.iterations = u16::from_le_bytes(next.part(3));
             }
-            Kind::Node => next.push_pair(&mut self.nodes),
-            Kind::Element => {
+            Mark::Node => next.push_pair(&mut self.nodes),
+            Mark::Element => {
                 let f = elements::nodes_per_element(self.family as usize);
                 next.push_row(f, &mut self.elements)
             }
-            Kind::Point => next.push_pair(&mut self.points),
-            Kind::Unknown => {}
+            Mark::Point => next.push_pair(&mut self.points),
+            Mark::Unknown => {}
         }
     }
 }
