@@ -76,6 +76,8 @@ THEOREMS = {
     "view": "the law of a thin call over a view",
     "walks": "a law of straight code, for its own sake",
 }
+# Files of lemmas for others in these crates: one of theirs that nobody cites is none of those.
+LEMMAS = {("definition", "Lists.antt"), ("definition", "Passing.antt")}
 
 RUST = re.compile(
     r"//[^\n]*|\"(?:\\.|[^\"\\])*\"|b?'(?:\\.|[^'\\])'|'[A-Za-z_]\w*|[A-Za-z_]\w*|\d[\w.]*"
@@ -623,7 +625,7 @@ def point8(root, count, out):
             named_in = sorted(d for d, words in docs.items() if name in words)
             if named_in:
                 JUDGED[(8, rel[0], name)] = f"a theorem that {', '.join(named_in)} names"
-            elif rel[0] in THEOREMS:
+            elif rel[0] in THEOREMS and (rel[0], path.name) not in LEMMAS:
                 JUDGED[(8, rel[0], name)] = THEOREMS[rel[0]]
             count.places[8].append((rel[0], "/".join(rel[1:]), number, name, "a lemma that nobody cites", False))
 

@@ -21,7 +21,7 @@ use std::array;
 // Each entry is four terms from +0, in the order of the columns. A matrix is whole by its type, so that every call has an answer.
 
 // Row i of a, times the four numbers.
-// Kept: a matrix and a row of it; a method on a struct around the array would read the same, and is no plainer.
+// Kept: a matrix and a row of it, and the definition's four numbers, which an array would only take together and apart again; a method on a struct around the matrix would read the same, and is no plainer.
 #[tactic(auto, unfolding(definition::specs::Rows::four_terms))]
 fn four_terms(a: &[f64; 16], i: usize, b0: f64, b1: f64, b2: f64, b3: f64) -> f64
     requires { i < 4 }

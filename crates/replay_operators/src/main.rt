@@ -101,7 +101,7 @@ impl Number for f64 {
 struct Case {
     operator: OperatorKind,
     family: u8,
-    // Kept: numbers beside the thickness and the list of pairs, as the C interface takes them.
+    // Kept: numbers beside the thickness and the list of pairs, as the case file has them and the C interface takes them.
     formulation: u8,
     pairs_given: u8,
     thickness: f64,

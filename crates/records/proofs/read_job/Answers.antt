@@ -13,17 +13,17 @@ returns-in_err-record_questions-clause-outcome c =
     rw (p.1, p.2) (reached_refused c.loop-at.invariant c.loop-at-test.true (rw (same.0, same.1) at c.in_err-record_questions.ensures))
 
 pub take-requires-clause-whole : goal.take-requires-clause-whole
-take-requires-clause-whole c = rw c.new-next.result.mark (ready c.in_ok-record_questions.ensures).whole
+take-requires-clause-whole c = rw c.new-next.result.read (ready c.in_ok-record_questions.ensures).whole
 
 pub take-requires-clause-room : goal.take-requires-clause-room
 take-requires-clause-room c =
     let same = c.new-next.ensures in
-    rw (c.new-next.result.mark, same.0, same.1) (reached_room c.loop-at.invariant (rw (same.0, same.1) at c.in_ok-record_questions.ensures))
+    rw (c.new-next.result.read, same.0, same.1) (reached_room c.loop-at.invariant (rw (same.0, same.1) at c.in_ok-record_questions.ensures))
 
 pub loop-at-preserved : goal.loop-at-preserved
 loop-at-preserved c =
     let same = c.new-next.ensures in
-    let mark = c.new-next.result.mark in
+    let mark = c.new-next.result.read in
     rw (c.size-at.ensures.value, c.family.ensures, c.take.ensures.value, mark, same.0, same.1)
     (reached_next c.loop-at.invariant c.loop-at-test.true (rw (same.0, same.1) at c.in_ok-record_questions.ensures)
     (rw (c.take.ensures.value, mark, same.0, same.1) at c.take.ensures.iterations_bound))
