@@ -74,7 +74,7 @@ fn put_listing(bytes: &[u8], page: &mut Page)
 {
     match records::read_job(bytes) {
         Ok(job) => put_job(&job, page),
-        Err(refusal) => page.put_refusal(refusal),
+        Err(refusal) => page.put_refusal(refusal.question.number(), refusal.place),
     }
 }
 

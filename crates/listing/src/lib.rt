@@ -6,11 +6,10 @@
 mod lines;
 
 ghost use Rattle.std.specs.Prelude.{◌≡◌, [], ◌∷◌, ◌++◌};
-ghost use Rattle.definition.specs.Questions.{number_of};
 ghost use Rattle.definition.specs.Job.{decimal, hexadecimal, refusal_line, counts_line, point_line};
 ghost use Rattle.listing.specs.Page.{Puts};
 
-use definition::{PointAnswer, QueryCounts, Refusal};
+use definition::{PointAnswer, QueryCounts};
 
 // A lent output, and the place of its next byte.
 #[derive(Drop)]
@@ -66,12 +65,13 @@ impl Page<'_> {
     }
 
     // The line of a refusal: its question's number and its place. At most 17 bytes for a number below 100 and a place below 100,000.
-    pub fn put_refusal(&mut self, refusal: Refusal)
-        ensures { Puts self.old self.new (refusal_line (number_of refusal.question) refusal.place) }
+    // Kept: the question as a number, any of which was taken before there was an enum, and a narrower type would ask more of a caller.
+    pub fn put_refusal(&mut self, question: u8, place: usize)
+        ensures { Puts self.old self.new (refusal_line question place) }
     {
         self.put_text(b"refused ");
-        self.put_number(refusal.question.number() as usize, b' ');
-        self.put_number(refusal.place, b'\n');
+        self.put_number(question as usize, b' ');
+        self.put_number(place, b'\n');
     }
 
     // The first line of a query's listing: points, elements with repeated nodes, points inside. At most 18 bytes for counts below 1,000.

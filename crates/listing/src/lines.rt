@@ -51,7 +51,7 @@ impl Page<'_> {
                     self.put_point(p, answer_in(lists, p));
                 }
             }
-            Err(refusal) => self.put_refusal(refusal),
+            Err(refusal) => self.put_refusal(refusal.question.number(), refusal.place),
         }
     }
 }

@@ -1,4 +1,4 @@
--- `root::positive_root` meets its contract: a guess that `is_root` finds right, and the whole part of the root that `digits` finds, give the same pattern, the one that `root_units` writes.
+-- `root::positive_root` meets its contract: a guess that `is_root` finds right, and the whole part of the root that `whole_root` finds, give the same pattern, the one that `root_units` writes.
 use mathlib.Core.Path.{◌≡◌, sym}
 use Prim.Native.Nat.{ℕ, zero, suc, ◌+◌, ◌-◌, ◌*◌, ◌/◌, ◌^◌, ◌≤◌, ◌<◌}
 use native.Mathlib.Nat.{lt_of_le_of_lt}
@@ -32,15 +32,15 @@ number : (n p : ℕ) → Pattern n p → T (not (nan_bits binary64 p))
 number n p q = not_nan_f64_bits p (omega (arith, q.finite))
 
 module _ (n h A : ℕ) (l : h < 1533) (z : Scaled n h A) where
-  by_digits : (s : ℕ) → Whole s (A * 2 ^ 54) → Pattern n ((h + 1) * 2 ^ 52 + (s + 1) / 2)
-  by_digits s w = record { finite = omega (arith, root_most A s z.most w); exact = sym (root_units_at n h A s z w) }
+  by_whole : (s : ℕ) → Whole s (A * 2 ^ 54) → Pattern n ((h + 1) * 2 ^ 52 + (s + 1) / 2)
+  by_whole s w = record { finite = omega (arith, root_most A s z.most w); exact = sym (root_units_at n h A s z w) }
 
   by_guess : (p : ℕ) → (h + 1) * 2 ^ 52 ≤ p → (let c = p - (h + 1) * 2 ^ 52 in (c * c < A * 2 ^ 52 + c) × (A * 2 ^ 52 ≤ c * c + c)) → Pattern n p
   by_guess p k e =
       let s = isqrt 54 (A * 2 ^ 54) in
       let w : Whole s (A * 2 ^ 54) = isqrt_whole 54 (A * 2 ^ 54) (quad_lt A z.most) in
       let same : p ≡ (h + 1) * 2 ^ 52 + (s + 1) / 2 = omega (arith, rounded A (p - (h + 1) * 2 ^ 52) s w e) in
-      rw same (by_digits s w)
+      rw same (by_whole s w)
 
 -- ---- the guess is right
 pub float_from_bits-result : goal.float_from_bits-result
@@ -51,7 +51,7 @@ returns-then-is_root c = (by_guess _ _ _ c.scale-v.ensures.0 c.scale-v.ensures.1
 
 -- ---- it is not
 pub float_from_bits-result-2 : goal.float_from_bits-result-2
-float_from_bits-result-2 c = (number _ _ (by_digits _ _ _ c.scale-v.ensures.0 c.scale-v.ensures.1 _ c.digits.ensures))
+float_from_bits-result-2 c = (number _ _ (by_whole _ _ _ c.scale-v.ensures.0 c.scale-v.ensures.1 _ c.whole_root.ensures))
 
 pub returns : goal.returns
-returns c = (by_digits _ _ _ c.scale-v.ensures.0 c.scale-v.ensures.1 _ c.digits.ensures).exact
+returns c = (by_whole _ _ _ c.scale-v.ensures.0 c.scale-v.ensures.1 _ c.whole_root.ensures).exact

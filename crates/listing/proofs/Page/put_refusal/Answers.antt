@@ -5,4 +5,4 @@ use Rattle.listing.proofs.Page.put_refusal.Goals as goal
 
 pub returns : goal.returns
 unfolding line refusal_line
-returns c = rw (← c.number.ensures) (puts_on c.put_text.ensures (puts_on c.put_number.ensures c.put_number-2.ensures))
+returns c = puts_on c.put_text.ensures (puts_on c.put_number.ensures c.put_number-2.ensures)
