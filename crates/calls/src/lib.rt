@@ -181,8 +181,7 @@ impl<'a> StrainCall<'a> {
 // A strain's call, and the materials.
 #[derive(Drop)]
 pub struct StressCall<'a> {
-    base: InterpolationCall<'a>,
-    formulation: Structural2dFormulation,
+    strain: StrainCall<'a>,
     materials: Materials<'a>,
 }
 
@@ -191,34 +190,20 @@ impl<'a> Model for StressCall<'a> {
 
     ghost Value = { Value' };
 
-    ghost view = { λ c. record { base = c.base; formulation = c.formulation; material_ids = c.materials.ids; material_table = c.materials.table; pairs_given = c.materials.pairs_given; pairs = c.materials.pairs } };
+    ghost view = { λ c. record { base = c.strain.base; formulation = c.strain.formulation; material_ids = c.materials.ids; material_table = c.materials.table; pairs_given = c.materials.pairs_given; pairs = c.materials.pairs } };
 }
 
 impl<'a> StressCall<'a> {
-    pub fn new(
-        base: InterpolationCall<'a>,
-        formulation: Structural2dFormulation,
-        materials: Materials<'a>,
-    ) -> StressCall<'a>
-        ensures { let m = materials.entry in result ≡ record { base = base.entry; formulation = formulation; material_ids = m.ids; material_table = m.table; pairs_given = m.pairs_given; pairs = m.pairs } }
+    pub fn new(strain: StrainCall<'a>, materials: Materials<'a>) -> StressCall<'a>
+        ensures { let s = strain.entry in let m = materials.entry in result ≡ record { base = s.base; formulation = s.formulation; material_ids = m.ids; material_table = m.table; pairs_given = m.pairs_given; pairs = m.pairs } }
     {
-        StressCall {
-            base,
-            formulation,
-            materials,
-        }
+        StressCall { strain, materials }
     }
 
-    pub fn base(&self) -> &InterpolationCall<'a>
-        ensures { result.now ≡ self.now.base }
+    pub fn strain(&self) -> &StrainCall<'a>
+        ensures { result.now ≡ record { base = self.now.base; formulation = self.now.formulation } }
     {
-        &self.base
-    }
-
-    pub fn formulation(&self) -> Structural2dFormulation
-        ensures { result ≡ self.now.formulation }
-    {
-        self.formulation
+        &self.strain
     }
 
     pub fn materials(&self) -> &Materials<'a>
@@ -231,6 +216,6 @@ impl<'a> StressCall<'a> {
     pub fn material_at(&self, p: usize) -> usize
         ensures { result ≡ material_at self.now p }
     {
-        self.materials.id(self.base.element_at(p))
+        self.materials.id(self.strain.base.element_at(p))
     }
 }

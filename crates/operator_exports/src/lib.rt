@@ -9,7 +9,6 @@ ghost use Rattle.numbers.specs.Numbers.{formulation_of, yes_of};
 ghost use Rattle.operator_exports.specs.Operators.{InterpolationExported, StrainExported, StressExported};
 
 use calls::{InterpolationCall, StrainCall, StressCall};
-use definition::Structural2dFormulation;
 use materials::Materials;
 use mesh::QuadMesh;
 use numbers::OperatorNumbers;
@@ -75,21 +74,20 @@ pub fn sobrizenta_strain_operator<'a>(
 }
 
 // The stress operator's call. A list of pairs that is not given is not read.
-// Kept: the flag beside the list, as the C interface has them; the base and the formulation are parts of the call that it makes.
+// Kept: the flag beside the list, as the C interface has them.
 #[tactic(auto, using(calls::proofs::Pairs::pairs_unread))]
 fn stress_call_of<'a>(
-    base: InterpolationCall<'a>,
-    formulation: Structural2dFormulation,
+    strain: StrainCall<'a>,
     material_ids: &'a [usize],
     material_table: &'a [f64],
     pairs_given: bool,
     pairs: &'a [f64],
 ) -> StressCall<'a>
-    ensures { (lent : Lists) → stress result lent ≡ stress (stress_call base.entry formulation material_ids.now material_table.now pairs_given pairs.now) lent }
+    ensures { let s = strain.entry in (lent : Lists) → stress result lent ≡ stress (stress_call s.base s.formulation material_ids.now material_table.now pairs_given pairs.now) lent }
 {
     let pairs = pairs_given.then_some(pairs);
     let materials = Materials::new(material_ids, material_table, pairs);
-    StressCall::new(base, formulation, materials)
+    StressCall::new(strain, materials)
 }
 
 // `quad_mesh_stress_operator`: material times strain, likewise. `pairs_given` 0 is no, and any other number yes.
@@ -119,9 +117,9 @@ pub fn sobrizenta_stress_operator<'a>(
 {
     let mesh = QuadMesh::new(family, nodes_rz, elements);
     let base = InterpolationCall::new(mesh, element_indices, reference_points);
+    let strain = StrainCall::new(base, numbers::formulation_of(formulation, thickness));
     let call = stress_call_of(
-        base,
-        numbers::formulation_of(formulation, thickness),
+        strain,
         material_ids,
         material_table,
         numbers::yes_of(pairs_given),

@@ -82,7 +82,7 @@ fn element_questions(call: &StressCall) -> Result<(), Refusal>
     ensures { let c = call.now in outcome result ≡ asked (materials_match c.material_ids c.base.mesh ∷ pairs_match c.pairs_given c.pairs c.base.mesh ∷ []) tt }
 {
     let materials = call.materials();
-    let count = call.base().mesh().num_elements();
+    let count = call.strain().base().mesh().num_elements();
     let matched = materials.ids().len() == count;
     asking::ask(matched, QuestionKind::MaterialsMatch, 0)?;
     let matched = materials
@@ -98,10 +98,11 @@ pub fn stress_questions(call: &StressCall, room: bool) -> Result<(), Refusal>
     ensures { (lent : TripletLists) → room ≡ triplet_room lent (8 * nodes_of call.now.base.mesh.family * length call.now.base.element_indices) →
         outcome result ≡ asked (stress_questions call.now lent) tt }
 {
-    mesh_questions(call.base())?;
+    let base = call.strain().base();
+    mesh_questions(base)?;
     material_question(call)?;
     asking::ask(room, QuestionKind::Room, 0)?;
-    number_questions(call.base())?;
+    number_questions(base)?;
     element_questions(call)?;
     point_questions::stress_point_questions(call)
 }

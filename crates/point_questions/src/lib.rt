@@ -36,7 +36,7 @@ pub fn strain_point_questions(call: &StrainCall) -> Result<(), Refusal>
 pub fn stress_point_questions(call: &StressCall) -> Result<(), Refusal>
     ensures { outcome result ≡ asked (each_point call.now.base (stress_asked call.now)) tt }
 {
-    walk::each_point(call.base().num_points(), |p| {
+    walk::each_point(call.strain().base().num_points(), |p| {
         points::stress_questions_at(p, call)
     })
 }

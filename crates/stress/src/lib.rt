@@ -2,7 +2,6 @@
 // It knows which questions a stress call asks, and which values a point has; how they become triplets is `operators`' matter.
 #![tactic(auto)]
 
-ghost use Rattle.std.specs.Prelude.{◌≡◌};
 ghost use Rattle.definition.specs.Operators.{StressPromise};
 ghost use Rattle.triplets.specs.Lent.{triplet_lists, SameLists};
 
@@ -34,7 +33,7 @@ impl<'c, 'a> Operator<4, 2> for Stress<'c, 'a> {
     ghost passed = { λ s lent e. unfold stress_questions in sixth s.0.now.base _ _ _ e };
 
     fn base(&self) -> &InterpolationCall<'_> {
-        self.0.base()
+        self.0.strain().base()
     }
 
     fn questions(&self, room: bool) -> Result<(), Refusal> {
@@ -43,7 +42,7 @@ impl<'c, 'a> Operator<4, 2> for Stress<'c, 'a> {
 
     // The element's material, turned where pairs are given, times the strain values.
     fn put_values(&self, p: usize, out: &mut [f64; 72]) {
-        let base = self.0.base();
+        let base = self.base();
         let mesh = base.mesh();
         let element_index = base.element_at(p);
         let oriented = self.0.materials().oriented(element_index);
@@ -52,7 +51,7 @@ impl<'c, 'a> Operator<4, 2> for Stress<'c, 'a> {
             mesh,
             element_index,
             base.reference_at(p),
-            self.0.formulation(),
+            self.0.strain().formulation(),
             &mut strain,
         );
         materials::put_stress_values(&oriented, &strain, mesh.family(), out);

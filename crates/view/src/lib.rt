@@ -127,6 +127,7 @@ pub fn quad_mesh_stress_operator<'a>(
 {
     let mesh = QuadMesh::new(family, mesh.nodes_rz, mesh.elements);
     let base = InterpolationCall::new(mesh, element_indices, reference_points);
-    let call = StressCall::new(base, formulation, materials);
+    let strain = StrainCall::new(base, formulation);
+    let call = StressCall::new(strain, materials);
     stress::quad_mesh_stress_operator(&call, lent)
 }
