@@ -31,7 +31,6 @@ import sys
 # Forms that match a test below and are none of its places: (point, crate, name) and why.
 JUDGED = {
     (1, "definition", "Structural2dFormulation"): "a choice of strains, no success or absence",
-    (1, "elements", "face_reference"): "a face's number is the definition's and the C interface's",
     (1, "search", "element_seed"): "the index of a seed in a table",
     (1, "search", "face_seed"): "the index of a seed in a table",
     (2, "answers", "store_element"): "an element's places and a face's, which are others",
@@ -148,7 +147,7 @@ class Item:
     def __init__(self, source, kind, name):
         self.source, self.kind, self.name, self.line = source, kind, str(name), name.line
         self.fields, self.clauses, self.body, self.variants, self.result = [], [], [], [], []
-        self.of_trait = False
+        self.of_trait, self.is_method = False, False
 
 
 def named(parts):
@@ -178,7 +177,11 @@ class Source:
         self.read()
 
     def kept(self, line):
-        return any("Kept:" in l for l in self.lines[max(0, line - 9) : line])
+        """Whether a line `Kept:` stands above, with no empty line between."""
+        for above in reversed(self.lines[:line]):
+            if "Kept:" in above or not above.strip():
+                return "Kept:" in above
+        return False
 
     def read(self):
         ts, i = self.ts, 0
@@ -220,7 +223,8 @@ class Source:
                 while ts[j] != "(":
                     j += 1
                 end = closing(ts, j)
-                item.fields = named(split(ts[j + 1 : end]))
+                parts = split(ts[j + 1 : end])
+                item.fields, item.is_method = named(parts), any("self" in part for part in parts[:1])
                 j = end + 1
                 while j < len(ts) and ts[j] not in ("{", ";"):
                     if ts[j] in ("requires", "ensures"):
@@ -437,7 +441,7 @@ def point4(items, count):
             count.add(4, item, "conversion by hand: bytes to a number")
         elif re.match(r"copy_|\w+_copy$", item.name):
             count.add(4, item, "copying by hand")
-        elif item.name == "digit" or PRINTING.match(item.name) and any(f[0] in ("out", "rt") for f in item.fields):
+        elif item.name == "digit" or PRINTING.match(item.name) and (item.is_method or any(f[0] in ("out", "rt") for f in item.fields)):
             count.add(4, item, "printing by hand")
         elif item.name in ("clamp", "float_of") and "if" in b:
             count.add(4, item, "what std has, by hand")

@@ -7,6 +7,7 @@ use definition::FaceReference;
 
 // The point of a face at s, from -1 to 1, and the direction d(xi, eta) / ds there. The faces run counter-clockwise: 0 is the bottom, 1 the right, 2 the top and 3
 // the left; every greater number counts as 3.
+// Kept: a face by its number, since the definition and the lists of an answer name it so, and every number has an answer.
 pub fn face_reference(local_face: u8, s: f64) -> FaceReference
     ensures { result ≡ face_reference_of local_face s }
 {

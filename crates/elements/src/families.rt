@@ -31,7 +31,7 @@ pub trait Family {
 }
 
 // Whether the family is 4 or 9.
-// Kept: a family by its number, since C and the job files name it so, and every number has an answer.
+// Kept: a family by its number, since C and the job files name it so, and every number has an answer; a choice of the type, for which a function for both would need what is done at it handed in.
 pub fn is_family(family: usize) -> bool
     ensures { result ≡ is_family family }
 {
@@ -39,7 +39,7 @@ pub fn is_family(family: usize) -> bool
 }
 
 // The nodes of an element, 4 or 9. The bounds say to a loop over the nodes that their places are there.
-// Kept: a family by its number, since C and the job files name it so, and every number has an answer.
+// Kept: a family by its number, since C and the job files name it so, and every number has an answer; a choice of the type, for which a function for both would need what is done at it handed in.
 #[tactic(auto, unfolding(definition::specs::Elements::nodes_of))]
 pub fn nodes_per_element(family: usize) -> usize
     ensures value { result ≡ nodes_of family }
@@ -53,7 +53,7 @@ pub fn nodes_per_element(family: usize) -> usize
 }
 
 // The shape numbers N at a reference, one a node.
-// Kept: a family by its number, since C and the job files name it so, and every number has an answer.
+// Kept: a family by its number, since C and the job files name it so, and every number has an answer; a choice of the type, for which a function for both would need what is done at it handed in.
 #[tactic(auto, unfolding(definition::specs::Elements::shape_of))]
 pub fn shape(family: usize, r: Reference) -> [f64; 9]
     ensures { result ≡ shape_of family r.xi r.eta }
@@ -66,7 +66,7 @@ pub fn shape(family: usize, r: Reference) -> [f64; 9]
 }
 
 // The gradients of N at a reference, two a node: by xi, then by eta.
-// Kept: a family by its number, since C and the job files name it so, and every number has an answer.
+// Kept: a family by its number, since C and the job files name it so, and every number has an answer; a choice of the type, for which a function for both would need what is done at it handed in.
 #[tactic(auto, unfolding(definition::specs::Elements::grad_ref_of))]
 pub fn grad_ref(family: usize, r: Reference) -> [f64; 18]
     ensures { result ≡ grad_ref_of family r.xi r.eta }

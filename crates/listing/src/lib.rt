@@ -20,6 +20,7 @@ pub struct Page<'a> {
 
 impl Page<'_> {
     // One byte, where there is room.
+    // Kept: this and the printing below are by hand, since a contract knows what `write!` prints only of a `String`, which is on the heap.
     #[tactic(auto, unfolding(crate::specs::Page::stored, crate::specs::Page::typed))]
     fn put_byte(&mut self, b: u8)
         ensures { Puts self.old self.new (b ∷ []) }
@@ -31,6 +32,7 @@ impl Page<'_> {
     }
 
     // The bytes of a text.
+    // Kept: `put_byte` says why it prints by hand.
     #[tactic(auto, using(crate::proofs::Pages::puts_none))]
     fn put_text(&mut self, text: &[u8])
         ensures { Puts self.old self.new text.now }
@@ -41,6 +43,7 @@ impl Page<'_> {
     }
 
     // n in decimal, and the byte after it.
+    // Kept: `put_byte` says why it prints by hand.
     fn put_number(&mut self, n: usize, end: u8)
         ensures { Puts self.old self.new (decimal n ++ end ∷ []) }
     {
@@ -50,6 +53,7 @@ impl Page<'_> {
     }
 
     // A float's bits by 16 hexadecimal digits, or nan, and the byte after it.
+    // Kept: `put_byte` says why it prints by hand.
     fn put_float(&mut self, x: f64, end: u8)
         ensures { Puts self.old self.new (hexadecimal x ++ end ∷ []) }
     {

@@ -41,6 +41,7 @@ fn answer_in(lists: &QueryLists, p: usize) -> PointAnswer
 
 impl Page<'_> {
     // The listing of a query's answer and lists. Of the counted points those are listed that the lists have a place for.
+    // Kept: `put_byte` says why it prints by hand.
     pub fn put_answer(&mut self, answer: Result<QueryCounts, Refusal>, lists: &QueryLists)
         ensures { Puts self.old self.new (answer_listing answer (query_lists lists.now)) }
     {

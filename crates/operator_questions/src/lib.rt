@@ -36,7 +36,7 @@ fn number_questions(call: &InterpolationCall) -> Result<(), Refusal>
 // ---- interpolation: 1, 2, 3, 5, 7, 8, 11, and for each point 14
 
 // The questions of interpolation, in order.
-// Kept: each operator asks its own questions in order, as its contract lists them; a function for all three would need each list handed in, and is no plainer.
+// Kept: the definition's own list, in its order. The three lines before the points stand in strain too: a function for them needs a law for each of the two lists, which cuts it there, and is no plainer.
 #[tactic(auto, using(definition::proofs::Passing::asked_append), unfolding(definition::specs::Questions::asked, definition::specs::Operators::interpolation_questions))]
 pub fn interpolation_questions(call: &InterpolationCall, room: bool) -> Result<(), Refusal>
     ensures { (lent : TripletLists) → room ≡ triplet_room lent (nodes_of call.now.mesh.family * length call.now.element_indices) →
@@ -51,7 +51,7 @@ pub fn interpolation_questions(call: &InterpolationCall, room: bool) -> Result<(
 // ---- strain: 1, 2, 3, 5, 7, 8, 11, and for each point 14, 16, 17
 
 // The questions of strain, in order.
-// Kept: each operator asks its own questions in order, as its contract lists them; a function for all three would need each list handed in, and is no plainer.
+// Kept: the definition's own list, in its order; the three lines before the points stand in interpolation too, which says why.
 #[tactic(auto, using(definition::proofs::Passing::asked_append), unfolding(definition::specs::Questions::asked, definition::specs::Operators::strain_questions))]
 pub fn strain_questions(call: &StrainCall, room: bool) -> Result<(), Refusal>
     ensures { (lent : TripletLists) → room ≡ triplet_room lent (8 * nodes_of call.now.base.mesh.family * length call.now.base.element_indices) →
@@ -92,7 +92,7 @@ fn element_questions(call: &StressCall) -> Result<(), Refusal>
 }
 
 // The questions of stress, in order.
-// Kept: each operator asks its own questions in order, as its contract lists them; a function for all three would need each list handed in, and is no plainer.
+// Kept: the definition's own list, in its order, with questions of its own between the others'.
 #[tactic(auto, using(crate::proofs::Parts::stress_parts))]
 pub fn stress_questions(call: &StressCall, room: bool) -> Result<(), Refusal>
     ensures { (lent : TripletLists) → room ≡ triplet_room lent (8 * nodes_of call.now.base.mesh.family * length call.now.base.element_indices) →

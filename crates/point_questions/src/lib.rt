@@ -15,6 +15,7 @@ use definition::Refusal;
 pub use points::element_question;
 
 // Question 14 of each point.
+// Kept: one line over `walk::each_point`, which the three share; each names its call and its questions.
 pub fn interpolation_point_questions(call: &InterpolationCall) -> Result<(), Refusal>
     ensures { outcome result ≡ asked (each_point call.now (interpolation_asked call.now)) tt }
 {
@@ -24,6 +25,7 @@ pub fn interpolation_point_questions(call: &InterpolationCall) -> Result<(), Ref
 }
 
 // Questions 14, 16 and 17 of each point.
+// Kept: one line over `walk::each_point`, which the three share; each names its call and its questions.
 pub fn strain_point_questions(call: &StrainCall) -> Result<(), Refusal>
     ensures { outcome result ≡ asked (each_point call.now.base (strain_asked call.now)) tt }
 {
@@ -33,6 +35,7 @@ pub fn strain_point_questions(call: &StrainCall) -> Result<(), Refusal>
 }
 
 // Questions 14, 15, 16 and 17 of each point.
+// Kept: one line over `walk::each_point`, which the three share; each names its call and its questions.
 pub fn stress_point_questions(call: &StressCall) -> Result<(), Refusal>
     ensures { outcome result ≡ asked (each_point call.now.base (stress_asked call.now)) tt }
 {

@@ -4,6 +4,8 @@
 use std::io;
 use std::io::Write;
 
+// Prints the listing of a job.
+// Kept: probe has these lines too. What is printed no contract says, so a function for both would be a public one that promises nothing.
 fn print_listing(rt: &impl Print, bytes: &[u8]) -> io::Result<()> {
     let mut out = [0u8; job::LONGEST_LISTING];
     if let Ok(bytes) = job::answer_job(bytes, &mut out) {
