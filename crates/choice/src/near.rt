@@ -1,7 +1,8 @@
 // The nearest so far of the elements, or of the faces. They compare the roots of the squared distances, and the first of those that tie stays.
 // It knows the definition and the root; nothing of an element or a face.
 
-ghost use Rattle.std.specs.Prelude.{◌≡◌, if◌then◌else◌};
+ghost use Rattle.std.specs.Prelude.{◌≡◌};
+ghost use Rattle.std.specs.Bool.{then_some};
 ghost use Rattle.std.specs.Float.Ieee.{lt};
 ghost use Rattle.definition.specs.Root.{root_of};
 
@@ -50,12 +51,9 @@ impl<A: Copy> Near<A> {
 // The root of `square` where it is smaller than `distance`, the root of `best_square`. The root keeps the order, so it is taken only where it can be smaller.
 fn smaller_root(square: f64, best_square: f64, distance: f64) -> Option<f64>
     requires { distance ≡ root_of best_square }
-    ensures { result ≡ (if lt (root_of square) distance then Some (root_of square) else None) }
+    ensures { result ≡ then_some (lt (root_of square) distance) (root_of square) }
 {
-    if square < best_square {
-        let root = root::root(square);
-        if root < distance { Some(root) } else { None }
-    } else {
-        None
-    }
+    (square < best_square)
+        .then(|| root::root(square))
+        .filter(|root| *root < distance)
 }

@@ -3,7 +3,7 @@
 
 ghost use Rattle.std.specs.Prelude.{◌≡◌, true};
 ghost use Rattle.definition.specs.Mapping.{point_at};
-ghost use Rattle.definition.specs.Search.{hessian_det, next_reference, element_step, element_best, closest_reference_point};
+ghost use Rattle.definition.specs.Search.{hessian00, hessian01, hessian10, hessian11, hessian_det, next_reference, element_step, element_best, closest_reference_point};
 
 use crate::searching::Search;
 use crate::{searching, steps};
@@ -36,47 +36,66 @@ const SEEDS: [Reference; 9] = [
     Reference { xi: -1.0, eta: 0.0 },
 ];
 
-// The determinant of J transposed times J.
-#[tactic(auto, unfolding(definition::specs::Search::hessian00, definition::specs::Search::hessian01, definition::specs::Search::hessian10, definition::specs::Search::hessian11, definition::specs::Search::hessian_det))]
-#[inline(always)]
-fn hessian_det(j: JacobianMatrix) -> f64
-    ensures { result ≡ hessian_det j }
-{
-    let JacobianMatrix {
-        xxi,
-        xeta,
-        yxi,
-        yeta,
-    } = j;
-    let h00 = xxi * xxi + yxi * yxi;
-    let h01 = xxi * xeta + yxi * yeta;
-    let h10 = xeta * xxi + yeta * yxi;
-    let h11 = xeta * xeta + yeta * yeta;
-    h00 * h11 - h01 * h10
+// J transposed times J, row by row.
+#[derive(Clone, Copy)]
+struct Hessian {
+    jacobian: JacobianMatrix,
+    h00: f64,
+    h01: f64,
+    h10: f64,
+    h11: f64,
+    ghost entries: { (h00 ≡ hessian00 jacobian) × (h01 ≡ hessian01 jacobian) × (h10 ≡ hessian10 jacobian) × (h11 ≡ hessian11 jacobian) },
 }
 
-// The reference after a step from r; (u, v) is the residual and det the determinant of J transposed times J.
-#[tactic(auto, unfolding(definition::specs::Search::next_reference, definition::specs::Search::gradient_xi, definition::specs::Search::gradient_eta, definition::specs::Search::hessian00, definition::specs::Search::hessian01, definition::specs::Search::hessian10, definition::specs::Search::hessian11))]
-#[inline(always)]
-fn next_reference(j: JacobianMatrix, det: f64, u: f64, v: f64, r: Reference) -> Reference
-    requires { det ≡ hessian_det j }
-    ensures { result ≡ next_reference j u v r }
-{
-    let JacobianMatrix {
-        xxi,
-        xeta,
-        yxi,
-        yeta,
-    } = j;
-    let h00 = xxi * xxi + yxi * yxi;
-    let h01 = xxi * xeta + yxi * yeta;
-    let h10 = xeta * xxi + yeta * yxi;
-    let h11 = xeta * xeta + yeta * yeta;
-    let gxi = xxi * u + yxi * v;
-    let geta = xeta * u + yeta * v;
-    let xi = binary64::clamp(r.xi - (gxi * h11 - h01 * geta) / det);
-    let eta = binary64::clamp(r.eta - (h00 * geta - gxi * h10) / det);
-    Reference { xi, eta }
+impl Hessian {
+    #[tactic(auto, unfolding(definition::specs::Search::hessian00, definition::specs::Search::hessian01, definition::specs::Search::hessian10, definition::specs::Search::hessian11))]
+    #[inline(always)]
+    fn new(jacobian: JacobianMatrix) -> Hessian
+        ensures { result.jacobian ≡ jacobian }
+    {
+        let JacobianMatrix {
+            xxi,
+            xeta,
+            yxi,
+            yeta,
+        } = jacobian;
+        Hessian {
+            jacobian,
+            h00: xxi * xxi + yxi * yxi,
+            h01: xxi * xeta + yxi * yeta,
+            h10: xeta * xxi + yeta * yxi,
+            h11: xeta * xeta + yeta * yeta,
+        }
+    }
+
+    // The determinant.
+    #[tactic(auto, unfolding(definition::specs::Search::hessian_det))]
+    #[inline(always)]
+    fn det(self) -> f64
+        ensures { result ≡ hessian_det self.jacobian }
+    {
+        self.h00 * self.h11 - self.h01 * self.h10
+    }
+
+    // The reference after a step from r; (u, v) is the residual.
+    #[tactic(auto, unfolding(definition::specs::Search::next_reference, definition::specs::Search::gradient_xi, definition::specs::Search::gradient_eta))]
+    #[inline(always)]
+    fn next_reference(self, u: f64, v: f64, r: Reference) -> Reference
+        ensures { result ≡ next_reference self.jacobian u v r }
+    {
+        let JacobianMatrix {
+            xxi,
+            xeta,
+            yxi,
+            yeta,
+        } = self.jacobian;
+        let gxi = xxi * u + yxi * v;
+        let geta = xeta * u + yeta * v;
+        let det = self.det();
+        let xi = binary64::clamp(r.xi - (gxi * self.h11 - self.h01 * geta) / det);
+        let eta = binary64::clamp(r.eta - (self.h00 * geta - gxi * self.h10) / det);
+        Reference { xi, eta }
+    }
 }
 
 // The references of an element.
@@ -101,17 +120,11 @@ impl<'a> Search for ElementSearch<'a> {
     #[inline(always)]
     fn step(&self, target: Point, at: Reference) -> Step<Reference> {
         let f = mapping::frame_at(self.element, at);
-        let det = hessian_det(f.jacobian);
-        if steps::within(det, SINGULAR) {
+        let hessian = Hessian::new(f.jacobian);
+        if steps::within(hessian.det(), SINGULAR) {
             return Step::Stay;
         }
-        let next = next_reference(
-            f.jacobian,
-            det,
-            f.point.x - target.x,
-            f.point.y - target.y,
-            at,
-        );
+        let next = hessian.next_reference(f.point.x - target.x, f.point.y - target.y, at);
         if binary64::squared_distance(at.xi, at.eta, next.xi, next.eta) <= SHORT_SQUARE {
             Step::Last(next)
         } else {

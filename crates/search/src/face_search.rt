@@ -6,7 +6,7 @@ ghost use Rattle.definition.specs.Search.{tangent_square, next_s, face_step, fac
 
 use crate::searching::Search;
 use crate::{searching, steps};
-use definition::{Best, FaceProjection, GatheredElement, Point, Reference, Step};
+use definition::{Best, FaceProjection, GatheredElement, Point, Step};
 
 // 2^-52: no step is made on a face whose squared tangent is at most this, and a step of at most this is the last.
 const EPSILON: f64 = 2.220446049250313e-16;
@@ -48,22 +48,14 @@ impl<'a> Search for FaceSearch<'a> {
     #[inline(always)]
     fn point(&self, s: f64) -> Point {
         let f = elements::face_reference(self.local_face, s);
-        let r = Reference {
-            xi: f.xi,
-            eta: f.eta,
-        };
-        mapping::point_at(self.element, r)
+        mapping::point_at(self.element, f.into())
     }
 
     #[tactic(auto, unfolding(std::specs::Prelude::from_bits, definition::specs::Search::face_step, definition::specs::Search::ended_face, definition::specs::Search::tangent_square))]
     #[inline(always)]
     fn step(&self, target: Point, s: f64) -> Step<f64> {
         let f = elements::face_reference(self.local_face, s);
-        let r = Reference {
-            xi: f.xi,
-            eta: f.eta,
-        };
-        let g = mapping::frame_at(self.element, r);
+        let g = mapping::frame_at(self.element, f.into());
         let d = mapping::face_tangent(g.jacobian, f);
         let square = d.x * d.x + d.y * d.y;
         if square <= EPSILON {

@@ -92,16 +92,9 @@ fn better<S: Search>(search: &S, target: Point, best: Best<S::At>, at: S::At) ->
 fn known_end<S: Search>(known: Option<LastStep<S::At>>, at: S::At) -> Option<S::At>
     ensures { IfSome result (λ to. known ≡ Some (record { from = at; to = to })) }
 {
-    match known {
-        Some(last) => {
-            if S::is_same(at, last.from) {
-                Some(last.to)
-            } else {
-                None
-            }
-        }
-        None => None,
-    }
+    known
+        .filter(|last| S::is_same(at, last.from))
+        .map(|last| last.to)
 }
 
 // At most `limit` steps from a place. Most seeds come to the same corner of a distant element and end there: the step from it is made for the first of them.
