@@ -2,7 +2,6 @@
 // It knows which questions a strain call asks, and which values a point has; how they become triplets is `operators`' matter.
 #![tactic(auto)]
 
-ghost use Rattle.std.specs.Prelude.{◌≡◌};
 ghost use Rattle.definition.specs.Operators.{StrainPromise};
 ghost use Rattle.triplets.specs.Lent.{triplet_lists, SameLists};
 
