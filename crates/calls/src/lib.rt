@@ -3,7 +3,7 @@
 // Any parts make a call, and every accessor has an answer for every number: whether the lists are whole is a question of the calls.
 #![tactic(auto)]
 
-ghost use Rattle.std.specs.Prelude.{◌≡◌, length, get_or};
+ghost use Rattle.std.specs.Prelude.{◌≡◌, length};
 ghost use Rattle.definition.specs.Mesh.{pair_count, pair_at};
 ghost use Rattle.definition.specs.Operators.{element_at, reference_at, material_at};
 

@@ -1,7 +1,7 @@
 // Family 4, the bilinear element: its nodes are (-1, -1), (1, -1), (1, 1) and (-1, 1), and nothing else is known here. The Rust's quad4.rs.
 
-ghost use Rattle.std.proofs.Common.{rules};
-ghost use Rattle.elements.specs.Nodes.{nodes_of_4};
+ghost use Rattle.std.proofs.Common.{refl, rules};
+ghost use Rattle.definition.specs.Elements.{nodes_of};
 
 use crate::families::Family;
 use definition::Reference;
@@ -15,7 +15,7 @@ impl Family for Quad4 {
 
     const NODES: usize = 4;
 
-    ghost nodes_are = { nodes_of_4 };
+    ghost nodes_are = { unfold nodes_of in refl };
 
     ghost nodes_fit = { Prim.search rules };
 

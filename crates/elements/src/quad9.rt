@@ -2,9 +2,8 @@
 // Rust's quad9.rs.
 
 ghost use Rattle.std.specs.Prelude.{◌≡◌};
-ghost use Rattle.std.proofs.Common.{rules};
-ghost use Rattle.definition.specs.Elements.{lagrange_low, lagrange_mid, lagrange_high, slope_low, slope_mid, slope_high};
-ghost use Rattle.elements.specs.Nodes.{nodes_of_9};
+ghost use Rattle.std.proofs.Common.{refl, rules};
+ghost use Rattle.definition.specs.Elements.{nodes_of, lagrange_low, lagrange_mid, lagrange_high, slope_low, slope_mid, slope_high};
 
 use crate::families::Family;
 use definition::Reference;
@@ -35,7 +34,7 @@ impl Family for Quad9 {
 
     const NODES: usize = 9;
 
-    ghost nodes_are = { nodes_of_9 };
+    ghost nodes_are = { unfold nodes_of in refl };
 
     ghost nodes_fit = { Prim.search rules };
 

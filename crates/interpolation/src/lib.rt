@@ -2,7 +2,6 @@
 // It knows which questions an interpolation call asks, and which values a point has; how they become triplets is `operators`' matter.
 #![tactic(auto)]
 
-ghost use Rattle.std.specs.Prelude.{◌≡◌};
 ghost use Rattle.definition.specs.Operators.{InterpolationPromise};
 ghost use Rattle.triplets.specs.Lent.{triplet_lists, SameLists};
 
@@ -16,12 +15,13 @@ use triplets::TripletLists;
 struct Interpolation<'c, 'a>(&'c InterpolationCall<'a>);
 
 impl<'c, 'a> Operator<1, 1> for Interpolation<'c, 'a> {
-    ghost use Rattle.std.specs.Prelude.{get_or};
+    ghost use Rattle.std.specs.Prelude.{[], get_or};
     ghost use Rattle.std.specs.Float.{nan};
     ghost use Rattle.definition.specs.Elements.{shape_of};
     ghost use Rattle.definition.specs.Operators.{interpolation_questions, reference_at};
-    ghost use Rattle.operators.proofs.Promised.{fifth_by_one};
+    ghost use Rattle.operators.proofs.Promised.{few_and_enough};
     ghost use Rattle.std.proofs.Common.{rules};
+    ghost use native.Mathlib.Nat.{one-mul};
 
     ghost base = { λ s. s.0.now };
 
@@ -33,7 +33,7 @@ impl<'c, 'a> Operator<1, 1> for Interpolation<'c, 'a> {
 
     ghost few_columns = { Prim.search rules };
 
-    ghost passed = { λ s lent e. unfold interpolation_questions in fifth_by_one s.0.now _ _ _ e };
+    ghost passed = { λ s lent e. unfold interpolation_questions in Prim.simp one-mul (few_and_enough s.0.now _ [] _ e) };
 
     fn base(&self) -> &InterpolationCall<'_> {
         self.0

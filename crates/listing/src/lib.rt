@@ -5,7 +5,7 @@
 
 mod lines;
 
-ghost use Rattle.std.specs.Prelude.{◌≡◌, [], ◌∷◌, ◌++◌};
+ghost use Rattle.std.specs.Prelude.{[], ◌∷◌, ◌++◌};
 ghost use Rattle.definition.specs.Job.{decimal, hexadecimal, refusal_line, counts_line, point_line};
 ghost use Rattle.listing.specs.Page.{Puts};
 

@@ -9,8 +9,7 @@ ghost use Rattle.listing.specs.Answers.{answer_in, answer_listing};
 use crate::Page;
 use answers::QueryLists;
 use definition::{
-    ElementProjection, FaceProjection, NodeProjection, Point, PointAnswer, QueryCounts, Reference,
-    Refusal,
+    ElementProjection, FaceProjection, NodeProjection, PointAnswer, QueryCounts, Refusal,
 };
 
 // The answer of point p in the lists.

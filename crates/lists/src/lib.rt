@@ -2,7 +2,7 @@
 // Every call has an answer for every number: past a list's end a float is NaN, as the definition reads it, and a part ends with the list.
 #![tactic(auto)]
 
-ghost use Rattle.std.specs.Prelude.{◌≡◌, ◌+◌, ◌*◌, ◌<◌, min, get_or, take, drop};
+ghost use Rattle.std.specs.Prelude.{◌≡◌, ◌+◌, ◌*◌, min, get_or, take, drop};
 ghost use Rattle.std.specs.Float.{nan};
 ghost use Rattle.definition.specs.Mapping.{first, second};
 ghost use Rattle.definition.specs.Mesh.{pair_at};

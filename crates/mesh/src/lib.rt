@@ -3,11 +3,11 @@
 // Any family and any two lists make a mesh, and every call has an answer for every number: whether the lists are whole is a question of the calls.
 #![tactic(auto)]
 
-ghost use Rattle.std.specs.Prelude.{◌≡◌, [], ◌∷◌, ◌+◌, ◌*◌, ◌≤◌, ◌<◌, ltb, length, get_or, drop};
+ghost use Rattle.std.specs.Prelude.{◌≡◌, [], ◌∷◌, ◌≤◌, ltb, length};
 ghost use Rattle.definition.specs.Elements.{nodes_of};
 ghost use Rattle.definition.specs.Lists.{each, over};
 ghost use Rattle.definition.specs.Mapping.{first, second};
-ghost use Rattle.definition.specs.Mesh.{node_count, element_count, pair_at, element_nodes, node_of, gathered, is_in, distinct, repeated_count};
+ghost use Rattle.definition.specs.Mesh.{node_count, element_count, pair_at, element_nodes, node_of, gathered, distinct, repeated_count};
 
 use definition::{GatheredElement, Point};
 use std::marker::Model;

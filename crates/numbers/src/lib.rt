@@ -9,7 +9,7 @@ ghost use Rattle.numbers.specs.Numbers.{formulation_of, yes_of, query_numbers, o
 use definition::{OperatorCounts, QueryCounts, Refusal, Structural2dFormulation};
 
 // What a query answers, in numbers: `question` is 0 where it is accepted, and `place` then too; else the three counts are 0.
-// Kept: the C interface reads the question as a number, with the counts beside it.
+// Kept: the C interface reads the question as a number, with the counts beside it. One `Numbers<C>` in place of the three structs cannot be exported: Rattle refuses a struct with type arguments in an exported function's signature (`unsupported-generic-in-c`).
 #[repr(C)]
 #[derive(Clone, Copy)]
 pub struct QueryNumbers {
@@ -21,7 +21,7 @@ pub struct QueryNumbers {
 }
 
 // What an operator answers, in numbers, likewise.
-// Kept: the C interface reads the question as a number, with the counts beside it.
+// Kept: as `QueryNumbers`.
 #[repr(C)]
 #[derive(Clone, Copy)]
 pub struct OperatorNumbers {
@@ -33,7 +33,7 @@ pub struct OperatorNumbers {
 }
 
 // What the call from a job's bytes to its listing answers, in numbers, likewise.
-// Kept: the C interface reads the question as a number, with the counts beside it.
+// Kept: as `QueryNumbers`.
 #[repr(C)]
 #[derive(Clone, Copy)]
 pub struct JobNumbers {
@@ -62,7 +62,7 @@ pub fn yes_of(number: usize) -> bool
     number != 0
 }
 
-// Kept: a C struct has its counts as fields of its own, so a generic function would still need each struct's fields named, and is no plainer.
+// Kept: the three structs are apart (see `QueryNumbers`), and so are their conversions.
 impl From<Result<QueryCounts, Refusal>> for QueryNumbers {
     ghost from_gives = { λ answer n. n ≡ query_numbers (outcome answer) };
 
@@ -86,7 +86,7 @@ impl From<Result<QueryCounts, Refusal>> for QueryNumbers {
     }
 }
 
-// Kept: a C struct has its counts as fields of its own, so a generic function would still need each struct's fields named, and is no plainer.
+// Kept: the three structs are apart (see `QueryNumbers`), and so are their conversions.
 impl From<Result<OperatorCounts, Refusal>> for OperatorNumbers {
     ghost from_gives = { λ answer n. n ≡ operator_numbers (outcome answer) };
 
@@ -110,7 +110,7 @@ impl From<Result<OperatorCounts, Refusal>> for OperatorNumbers {
     }
 }
 
-// Kept: a C struct has its counts as fields of its own, so a generic function would still need each struct's fields named, and is no plainer.
+// Kept: the three structs are apart (see `QueryNumbers`), and so are their conversions.
 impl From<Result<usize, Refusal>> for JobNumbers {
     ghost from_gives = { λ answer n. n ≡ job_numbers (outcome answer) };
 

@@ -2,10 +2,11 @@
 use mathlib.Core.Path.{◌≡◌, ap, ◌∙◌}
 use mathlib.Core.Bool.{true, false, cond}
 use mathlib.Core.List.{List, [], ◌∷◌}
-use Prim.Native.Nat.{ℕ, zero, suc, ◌+◌, ◌*◌, ◌≤◌, ◌<◌}
+use Prim.Native.Nat.{ℕ, zero, suc, ◌+◌, ◌-◌, ◌*◌, ◌≤◌, ◌<◌}
 use native.Mathlib.Nat.{add_assoc}
 use native.Mathlib.Omega.{arith}
-use lib.ListN.{length, get_or, length-append}
+use lib.ListN.{length, get_or, take, drop, length-append}
+use Rattle.std.proofs.lemmas.List.{get_or-take, get_or-drop, length-take-le, length-drop, take_rest}
 use lib.Ieee.{Float, nan, eq}
 use Rattle.definition.specs.Binary64.{plus0}
 use Rattle.definition.specs.Elements.{nodes_of}
@@ -50,6 +51,27 @@ entries_are : (k c F p : ℕ) (node : ℕ → ℕ) (value : ℕ → ℕ → ℕ 
 unfolding point_triplets
 entries_are k c F p node value old =
     each_same (λ i a. each_same (λ j b. each_same (λ d l. ap (kept (k * p + i) (c * node j + d)) (rw (add_assoc (c * F * i) (c * j) d) (written_at value a b l old)))))
+
+-- ---- triplets whose values were read from a part that begins at place s of a list, by their places in the list
+
+-- those of a node
+pub node_part : (c s : ℕ) (entries : List Float) → s + c ≤ length entries → (row node : ℕ) {u v : TripletLists} {at next : ℕ} →
+    (let part = take c (take (length entries - s) (drop s entries)) in Puts (each (λ d. kept row (length part * node + d) (get_or part d nan)) (length part)) u at v next) →
+    Puts (each (λ d. kept row (c * node + d) (get_or entries (s + d) nan)) c) u at v next
+node_part c s entries fits row node put =
+    let whole : length (take c (drop s entries)) ≡ c = length-take-le c (drop s entries) (rw length-drop (omega (arith, fits))) in
+    let same : each (λ d. kept row (c * node + d) (get_or (take c (drop s entries)) d nan)) c ≡ each (λ d. kept row (c * node + d) (get_or entries (s + d) nan)) c =
+    each_same (λ d l. ap (kept row (c * node + d)) (get_or-take c (drop s entries) d nan l ∙ get_or-drop s entries d nan)) in
+    rw (take_rest entries s, whole, same) at put
+
+-- those of a row
+pub row_part : (c F : ℕ) (node : ℕ → ℕ) (s : ℕ) (entries : List Float) (row : ℕ) {u v : TripletLists} {at next : ℕ} →
+    Puts (each (λ j. each (λ d. kept row (c * node j + d) (get_or (take (length entries - s) (drop s entries)) (c * j + d) nan)) c) F) u at v next →
+    Puts (each (λ j. each (λ d. kept row (c * node j + d) (get_or entries (s + c * j + d) nan)) c) F) u at v next
+row_part c F node s entries row put =
+    let same : each (λ j. each (λ d. kept row (c * node j + d) (get_or (drop s entries) (c * j + d) nan)) c) F ≡ each (λ j. each (λ d. kept row (c * node j + d) (get_or entries (s + c * j + d) nan)) c) F =
+    each_same (λ j a. each_same (λ d b. ap (kept row (c * node j + d)) (rw (add_assoc s (c * j) d) (get_or-drop s entries (c * j + d) nan)))) in
+    rw (take_rest entries s, same) at put
 
 -- the triplets of one point more
 pub point_next : (q : InterpolationCall) (k c : ℕ) (value : ℕ → ℕ → ℕ → ℕ → Float) (p : ℕ) {F : ℕ} {nodes : List ℕ} {entries : List Float} (old : List Float) {u v w : TripletLists} {at next last : ℕ} →

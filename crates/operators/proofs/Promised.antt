@@ -1,9 +1,8 @@
 -- A refused operator and an accepted one keep the operator's promise: by what its questions come to. Assumes nothing.
 use mathlib.Core.Path.{◌≡◌, refl, sym, ap, ◌∙◌}
 use mathlib.Core.Bool.{Bool, true, ◌&&◌}
-use mathlib.Core.List.{List, ◌∷◌, ◌++◌}
-use Prim.Native.Nat.{ℕ, ◌*◌, ◌≤◌}
-use native.Mathlib.Nat.{one-mul}
+use mathlib.Core.List.{List, [], ◌∷◌, ◌++◌}
+use Prim.Native.Nat.{ℕ, ◌≤◌}
 use native.Mathlib.Omega.{arith}
 use borrow.Author.Tests.{leb-true}
 use lib.Dec.{leb}
@@ -52,31 +51,17 @@ room_for lent {n} {m} h l =
 few_points : (references : List Float) (indices : List ℕ) → (references_whole references indices).holds ≡ true → length indices ≤ 1000000
 few_points references indices h = leb-true (length indices) 1000000 (and_parts (whole 2 (length references)) (leb (length indices) 1000000) h).1
 
-module _ (call : InterpolationCall) (enough : Bool) where
-  -- question 5 is the fourth, and question 7 the fifth
-  pub fifth : (rest : List Question) → accepted (tt {0}) ≡ asked (mesh_questions call ++ room enough ∷ rest) (tt {0}) → (length call.element_indices ≤ 1000000) × (enough ≡ true)
-  unfolding passes
-  fifth rest e =
-      let (all, _) = asked_accepted (mesh_questions call ++ room enough ∷ rest) (sym e) in
-      let (_, two) = and_parts (family_known call.mesh).holds _ all in
-      let (_, three) = and_parts (nodes_whole call.mesh).holds _ two in
-      let (_, five) = and_parts (elements_whole call.mesh).holds _ three in
-      let (few, seven) = and_parts (references_whole call.reference_points call.element_indices).holds _ five in
-      (few_points call.reference_points call.element_indices few, (and_parts enough _ seven).0)
+-- each of the questions holds
+holds_at : (before : List Question) (q : Question) (after : List Question) → passes (before ++ q ∷ after) ≡ true → q.holds ≡ true
+unfolding passes
+holds_at [] q after h = (and_parts q.holds (passes after) h).0
+holds_at (p ∷ before) q after h = holds_at before q after (and_parts p.holds (passes (before ++ q ∷ after)) h).1
 
-  -- with question 6 between them
-  pub sixth : (six : Question) (rest : List Question) → accepted (tt {0}) ≡ asked (mesh_questions call ++ six ∷ room enough ∷ rest) (tt {0}) → (length call.element_indices ≤ 1000000) × (enough ≡ true)
-  unfolding passes
-  sixth six rest e =
-      let (all, _) = asked_accepted (mesh_questions call ++ six ∷ room enough ∷ rest) (sym e) in
-      let (_, two) = and_parts (family_known call.mesh).holds _ all in
-      let (_, three) = and_parts (nodes_whole call.mesh).holds _ two in
-      let (_, five) = and_parts (elements_whole call.mesh).holds _ three in
-      let (few, from-six) = and_parts (references_whole call.reference_points call.element_indices).holds _ five in
-      let (_, seven) = and_parts six.holds _ from-six in
-      (few_points call.reference_points call.element_indices few, (and_parts enough _ seven).0)
-
--- the same for one place a node
-pub fifth_by_one : (call : InterpolationCall) (lent : TripletLists) (F : ℕ) (rest : List Question) → accepted (tt {0}) ≡ asked (mesh_questions call ++ room (triplet_room lent (F * length call.element_indices)) ∷ rest) (tt {0}) →
-    (length call.element_indices ≤ 1000000) × (triplet_room lent (1 * F * length call.element_indices) ≡ true)
-fifth_by_one call lent F rest e = rw one-mul (fifth call (triplet_room lent (F * length call.element_indices)) rest e)
+-- question 5 is the last of the mesh's, and between it and question 7 may stand others
+pub few_and_enough : (call : InterpolationCall) (enough : Bool) (between after : List Question) →
+    accepted (tt {0}) ≡ asked (mesh_questions call ++ between ++ room enough ∷ after) (tt {0}) → (length call.element_indices ≤ 1000000) × (enough ≡ true)
+few_and_enough call enough between after e =
+    let (all, _) = asked_accepted (mesh_questions call ++ between ++ room enough ∷ after) (sym e) in (
+      few_points call.reference_points call.element_indices (holds_at (family_known call.mesh ∷ nodes_whole call.mesh ∷ elements_whole call.mesh ∷ []) _ _ all),
+      holds_at (mesh_questions call ++ between) _ _ all,
+    )

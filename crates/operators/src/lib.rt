@@ -48,32 +48,24 @@ pub trait Operator<const ROWS: usize, const COLUMNS: usize> {
 // ---- the triplets of one point
 // The numbers of rows and of columns are constants of each operator, which the compiler knows where these functions are inlined.
 
-// The triplets of one node in one row, whose values begin at place `from`.
-// Kept: row, entries and place are one triplet's; a struct for them would be made anew at each, and is no plainer. The entries of up to nine nodes stand in fixed memory, and the count says how many nodes there are.
+// The triplets of one node in one row, from its entries: one a displacement component.
+// Kept: the entries and the place are others at each call, so a struct for them and the lists would be made anew each time, and is no plainer.
 #[inline(always)]
 #[tactic(auto, using(crate::proofs::Numbers::column_fits, triplets::proofs::Putting::puts_none), unfolding(definition::specs::Lists::each))]
-fn put_node(
-    row: usize,
-    node: usize,
-    columns: usize,
-    entries: &[f64; 72],
-    from: usize,
-    lent: &mut TripletLists,
-    at: usize,
-) -> usize
-    requires { (node < 2 ^ 32) × (columns ≤ 2) × (from + columns ≤ 72) }
-    ensures { Puts (each (λ d. kept row (columns * node + d) (get_or entries.now (from + d) nan)) columns) lent.old at lent.new result }
+fn put_node(row: usize, node: usize, entries: &[f64], lent: &mut TripletLists, at: usize) -> usize
+    requires { (node < 2 ^ 32) × (length entries.now ≤ 2) }
+    ensures { Puts (each (λ d. kept row (length entries.now * node + d) (get_or entries.now d nan)) (length entries.now)) lent.old at lent.new result }
 {
-    let first = columns * node;
+    let first = entries.len() * node;
     let mut next = at;
-    for d in 0..columns {
-        next = lent.put_triplet(row, first + d, entries[from + d], next);
+    for (d, value) in entries.iter().enumerate() {
+        next = lent.put_triplet(row, first + d, *value, next);
     }
     next
 }
 
-// The triplets of one row: the nodes of the element, whose values begin at place `from`.
-// Kept: row, entries and place are one triplet's; a struct for them would be made anew at each, and is no plainer. The entries of up to nine nodes stand in fixed memory, and the count says how many nodes there are.
+// The triplets of one row, from its entries: `columns` a node, the element's nodes one after the other.
+// Kept: as at `put_node`. The count stands beside the nodes, since the mesh's list may end early, and a node that it lacks is 0.
 #[inline(always)]
 #[tactic(auto, using(lists::proofs::Parts::part_fits, triplets::proofs::Putting::puts_none), unfolding(definition::specs::Lists::each))]
 fn put_row(
@@ -81,38 +73,37 @@ fn put_row(
     count: usize,
     nodes: &[u32],
     columns: usize,
-    entries: &[f64; 72],
-    from: usize,
+    entries: &[f64],
     lent: &mut TripletLists,
     at: usize,
 ) -> usize
-    requires { (count ≤ 9) × (columns ≤ 2) × (from + columns * count ≤ 72) }
-    ensures { Puts (each (λ j. each (λ d. kept row (columns * get_or nodes.now j 0 + d) (get_or entries.now (from + columns * j + d) nan)) columns) count)
+    requires { (count ≤ 9) × (columns ≤ 2) × (columns * count ≤ length entries.now) }
+    ensures { Puts (each (λ j. each (λ d. kept row (columns * get_or nodes.now j 0 + d) (get_or entries.now (columns * j + d) nan)) columns) count)
         lent.old at lent.new result }
 {
     let mut next = at;
     for j in 0..count {
         let node = lists::get_or(nodes, j, 0) as usize;
-        next = put_node(row, node, columns, entries, from + columns * j, lent, next);
+        next = put_node(row, node, &entries[columns * j..][..columns], lent, next);
     }
     next
 }
 
 // The rows of point p. The entries stand in the triplets' order: component, local node, displacement component.
-// Kept: row, entries and place are one triplet's; a struct for them would be made anew at each, and is no plainer. The entries of up to nine nodes stand in fixed memory, and the count says how many nodes there are.
+// Kept: as at `put_row`.
 #[inline(always)]
-#[tactic(auto, using(lists::proofs::Parts::part_fits, crate::proofs::Numbers::row_fits, crate::proofs::Numbers::entries_fit, triplets::proofs::Putting::puts_none), unfolding(definition::specs::Lists::each, definition::specs::Rows::point_triplets))]
+#[tactic(auto, using(lists::proofs::Parts::part_fits, crate::proofs::Numbers::row_fits, triplets::proofs::Putting::puts_none), unfolding(definition::specs::Lists::each, definition::specs::Rows::point_triplets))]
 fn put_point(
     p: u32,
     rows: usize,
     count: usize,
     nodes: &[u32],
     columns: usize,
-    entries: &[f64; 72],
+    entries: &[f64],
     lent: &mut TripletLists,
     at: usize,
 ) -> usize
-    requires { (rows ≤ 4) × (count ≤ 9) × (columns ≤ 2) }
+    requires { (rows ≤ 4) × (count ≤ 9) × (columns ≤ 2) × (columns * count * rows ≤ length entries.now) }
     ensures { Puts (point_triplets rows columns count (λ j. get_or nodes.now j 0) (λ i j d. get_or entries.now (columns * count * i + columns * j + d) nan) p)
         lent.old at lent.new result }
 {
@@ -125,8 +116,7 @@ fn put_point(
             count,
             nodes,
             columns,
-            entries,
-            width * i,
+            &entries[width * i..],
             lent,
             next,
         );
@@ -137,6 +127,7 @@ fn put_point(
 // ---- the triplets of all points
 
 // The triplets of all points, from the lists' first place on; their number.
+#[tactic(auto, using(crate::proofs::Numbers::entries_fit))]
 fn put_points<const ROWS: usize, const COLUMNS: usize, O: Operator<ROWS, COLUMNS>>(
     operator: &O,
     lent: &mut TripletLists,

@@ -1,5 +1,5 @@
 // One point after the other, whatever is asked of it. It knows the definition's outcomes, and nothing of a call.
-ghost use Rattle.std.specs.Prelude.{◌≡◌, ◌<◌, ℕ, List, Result};
+ghost use Rattle.std.specs.Prelude.{◌≡◌, ◌<◌, ℕ, List};
 ghost use Rattle.definition.specs.Lists.{each};
 ghost use Rattle.definition.specs.Questions.{Question, asked, outcome};
 

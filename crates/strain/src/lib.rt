@@ -15,9 +15,10 @@ use triplets::TripletLists;
 struct Strain<'c, 'a>(&'c StrainCall<'a>);
 
 impl<'c, 'a> Operator<4, 2> for Strain<'c, 'a> {
+    ghost use Rattle.std.specs.Prelude.{[]};
     ghost use Rattle.definition.specs.Operators.{strain_questions, basis_of};
     ghost use Rattle.definition.specs.Rows.{strain_entry};
-    ghost use Rattle.operators.proofs.Promised.{fifth};
+    ghost use Rattle.operators.proofs.Promised.{few_and_enough};
     ghost use Rattle.std.proofs.Common.{rules};
 
     ghost base = { λ s. s.0.now.base };
@@ -30,7 +31,7 @@ impl<'c, 'a> Operator<4, 2> for Strain<'c, 'a> {
 
     ghost few_columns = { Prim.search rules };
 
-    ghost passed = { λ s lent e. unfold strain_questions in fifth s.0.now.base _ _ e };
+    ghost passed = { λ s lent e. unfold strain_questions in few_and_enough s.0.now.base _ [] _ e };
 
     fn base(&self) -> &InterpolationCall<'_> {
         self.0.base()

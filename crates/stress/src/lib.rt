@@ -15,9 +15,10 @@ use triplets::TripletLists;
 struct Stress<'c, 'a>(&'c StressCall<'a>);
 
 impl<'c, 'a> Operator<4, 2> for Stress<'c, 'a> {
+    ghost use Rattle.std.specs.Prelude.{[], ◌∷◌};
     ghost use Rattle.definition.specs.Operators.{stress_questions, basis_of, oriented_at};
     ghost use Rattle.definition.specs.Rows.{stress_entry};
-    ghost use Rattle.operators.proofs.Promised.{sixth};
+    ghost use Rattle.operators.proofs.Promised.{few_and_enough};
     ghost use Rattle.std.proofs.Common.{rules};
 
     ghost base = { λ s. s.0.now.base };
@@ -30,7 +31,7 @@ impl<'c, 'a> Operator<4, 2> for Stress<'c, 'a> {
 
     ghost few_columns = { Prim.search rules };
 
-    ghost passed = { λ s lent e. unfold stress_questions in sixth s.0.now.base _ _ _ e };
+    ghost passed = { λ s lent e. unfold stress_questions in few_and_enough s.0.now.base _ (_ ∷ []) _ e };
 
     fn base(&self) -> &InterpolationCall<'_> {
         self.0.strain().base()

@@ -1,2 +1,0 @@
--- What each family's number of nodes comes to, for the families' laws.
-pub mod Nodes
