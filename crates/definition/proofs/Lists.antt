@@ -9,6 +9,7 @@ use native.Mathlib.Numerals.{add-one}
 use native.Mathlib.Omega.{arith}
 use lib.ListN.{length, get_or, set, take, drop, length-append, length-drop, get_or-append}
 use lib.Seq.{take-append_seam, set-append_seam, drop-cons, get_or-append-add}
+use Rattle.std.proofs.lemmas.Bool.{and_parts}
 use Rattle.definition.specs.Lists.{each, over, every}
 use Rattle.definition.specs.Query.{values}
 
@@ -93,10 +94,6 @@ over_pair x y k old l =
     rw (each_more, ← append_assoc new (x k ∷ []) (y k ∷ []), over_next (new ++ x k ∷ []) old (y k) (rw more l), more, over_next new old (x k) (rw size (omega arith)), size)
 
 -- ---- a test of every number below n
-
-pub and_parts : (a b : Bool) → a && b ≡ true → (a ≡ true) × (b ≡ true)
-and_parts true b e = (refl, e)
-and_parts false b e = (e, cc)
 
 pub every_at : (p : ℕ → Bool) {n i : ℕ} → every p n ≡ true → i < n → p i ≡ true
 unfolding every

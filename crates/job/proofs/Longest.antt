@@ -9,6 +9,7 @@ use borrow.Author.Tests.{leb-true, ltb-true, lt-ltb}
 use lib.Dec.{ltb}
 use lib.ListN.{length, length-append, length-map}
 use lib.Ieee.{Float, binary64, lt, of_bits}
+use Rattle.std.proofs.lemmas.Bool.{and_parts}
 use Rattle.definition.specs.Lists.{count_of}
 use Rattle.definition.specs.Elements.{nodes_of}
 use Rattle.definition.specs.Search.{closest_reference_point, closest_face_point}
@@ -18,7 +19,7 @@ use Rattle.definition.specs.Questions.{Question, Outcome, ask, accepted, refused
 use Rattle.definition.specs.declared.QueryCounts.{QueryCounts}
 use Rattle.definition.specs.Query.{QueryCall, QueryLists, query_questions, answer_at, inside_count, queried}
 use Rattle.definition.specs.Job.{Job, within_limits, read_job, query_of, own_lists, refusal_line, point_line, query_listing, job_listing, listing, longest_listing}
-use Rattle.definition.proofs.Lists.{map_each, every_of, and_parts}
+use Rattle.definition.proofs.Lists.{map_each, every_of}
 use Rattle.definition.proofs.Passing.{passes, passes_append, passes_each}
 use Rattle.definition.proofs.Choice.{pick_more}
 use Rattle.records.proofs.Prefix.{accepted_within, refused_small}

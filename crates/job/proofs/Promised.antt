@@ -1,11 +1,11 @@
 -- The call keeps its promise: an output that is too short stays as it was, and one that holds the longest listing holds this one. Assumes nothing.
 use Rattle.std.proofs.Common.{◌≡◌, refl, sym, ap, ◌∙◌, true, Ok, Err, List, [], ◌∷◌, ℕ, ◌≤◌, leb, length, length-append, arith}
 use borrow.Author.Tests.{le-leb, leb-true}
+use Rattle.std.proofs.lemmas.Bool.{and_parts}
 use Rattle.definition.specs.Lists.{over}
 use Rattle.definition.specs.Questions.{ask, accepted, refused, asked, number_of}
 use Rattle.definition.specs.Job.{listing, longest_listing, job_answered, JobPromise}
 use Rattle.definition.specs.declared.Refusal.{Refusal}
-use Rattle.definition.proofs.Lists.{and_parts}
 use Rattle.definition.proofs.Passing.{passes, asked_accepted, asked_value}
 use Rattle.listing.specs.Page.{Page, page, typed}
 use Rattle.listing.proofs.Pages.{typed_over}

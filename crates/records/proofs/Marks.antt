@@ -3,11 +3,12 @@ use Rattle.std.proofs.Common.{◌≡◌, refl, ap, ◌∙◌, Bool, true, false,
 use Rattle.std.proofs.Math.Bool.{true-and, and-true}
 use native.Mathlib.Nat.{one-mul}
 use borrow.Author.Tests.{leb-true, le-leb}
+use Rattle.std.proofs.lemmas.Bool.{and_parts}
 use Rattle.definition.specs.Elements.{nodes_of}
 use Rattle.definition.specs.declared.Mark.{Mark}
 use Rattle.definition.specs.declared.Mark.TheVariants.{Head, Node, Element, Point, Unknown}
 use Rattle.definition.specs.Job.{is_head, Job, empty_job, record_bytes, little, pair_bits, row_of, taken, within_limits}
-use Rattle.definition.proofs.Lists.{each_more, each_length, and_parts}
+use Rattle.definition.proofs.Lists.{each_more, each_length}
 use Rattle.records.specs.Reading.{room_for}
 
 -- the nodes of an element, and the bytes of a record

@@ -2,11 +2,11 @@
 use Rattle.std.proofs.Common.{◌≡◌, refl, sym, ◌∙◌, Bool, true, false, List, [], ◌∷◌, ℕ, zero, suc, ◌+◌, ◌-◌, ◌≤◌, ◌<◌, ltb, eqb, length, add-one, arith}
 use Rattle.std.specs.Bool.{beq}
 use borrow.Author.Tests.{leb-true, eqb-true, ltb-true}
+use Rattle.std.proofs.lemmas.Bool.{and_parts}
 use Rattle.definition.specs.Questions.{Question, accepted, refused, ask, asked, is_family}
 use Rattle.definition.specs.declared.Mark.{Mark}
 use Rattle.definition.specs.declared.Mark.TheVariants.{Head, Node, Element, Point, Unknown}
 use Rattle.definition.specs.Job.{is_known, is_head, Job, empty_job, mark_at, record_bytes, record_questions, taken, family_read, within_limits, read_from, read_job}
-use Rattle.definition.proofs.Lists.{and_parts}
 use Rattle.definition.proofs.Passing.{passes, asked_accepted, asked_value}
 use Rattle.records.proofs.Marks.{record_some, limits_bound, start_within, room_is}
 use Rattle.records.proofs.Turns.{read_passed, read_refused, read_ended}

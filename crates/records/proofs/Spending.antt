@@ -9,12 +9,12 @@ use native.Mathlib.Omega.{arith}
 use borrow.Author.Tests.{leb-true}
 use lib.Dec.{leb, eqb}
 use lib.ListN.{length}
+use Rattle.std.proofs.lemmas.Bool.{and_parts}
 use Rattle.definition.specs.Elements.{nodes_of}
 use Rattle.definition.specs.Questions.{accepted, asked}
 use Rattle.definition.specs.declared.Mark.{Mark}
 use Rattle.definition.specs.declared.Mark.TheVariants.{Head, Node, Element, Point, Unknown}
 use Rattle.definition.specs.Job.{is_known, is_head, Job, empty_job, mark_at, record_bytes, taken, family_read, within_limits, record_questions}
-use Rattle.definition.proofs.Lists.{and_parts}
 use Rattle.definition.proofs.Passing.{passes, asked_accepted}
 use Rattle.records.proofs.Marks.{pair_length, row_length}
 use Rattle.records.proofs.Reached.{head_first}

@@ -9,12 +9,12 @@ use borrow.Author.Tests.{eqb-true, eq-eqb, ne_eqb}
 use lib.Dec.{leb, eqb}
 use lib.ListN.{length}
 use lib.Ieee.{nan}
+use Rattle.std.proofs.lemmas.Bool.{and_parts}
 use Rattle.definition.specs.Elements.{nodes_of}
 use Rattle.definition.specs.Mesh.{element_count}
 use Rattle.definition.specs.Questions.{whole}
 use Rattle.definition.specs.Query.{QueryCall, query_questions, queried}
 use Rattle.definition.specs.Renumbering.{Permutation, Renumbering, Renumbered, TwoQueries, Attached, renumbered_query, attached_list, ComputedQueries, Demand3Computed}
-use Rattle.definition.proofs.Lists.{and_parts}
 use Rattle.definition.proofs.Passing.{asked_accepted}
 use Rattle.definition.proofs.Renumbering.Moves.{moved_computed}
 use Rattle.definition.proofs.Renumbering.Mesh.{Passed, passed_says}
