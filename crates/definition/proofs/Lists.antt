@@ -71,6 +71,16 @@ pub over_at : {A : Type 0} (new old : List A) {i : ℕ} (d : A) → i < length n
 unfolding over
 over_at new old {i} d l = get_or-append new (drop (length new) old) d i l
 
+-- a place of the new entries: one a number, and two
+pub value_read : {A : Type 0} (v : ℕ → A) (old : List A) (d : A) {n i : ℕ} → i < n → get_or (over (values v n) old) i d ≡ v i
+value_read v old d {n} l = over_at (values v n) old d (rw (values_length v n) l) ∙ values_at v d l
+
+pub first_read : {A : Type 0} (x y : ℕ → A) (old : List A) (d : A) {n i : ℕ} → i < n → get_or (over (each (λ i. x i ∷ y i ∷ []) n) old) (2 * i) d ≡ x i
+first_read x y old d {n} l = over_at (each (λ i. x i ∷ y i ∷ []) n) old d (rw (pairs_length x y n) (omega arith)) ∙ pairs_first x y d l
+
+pub second_read : {A : Type 0} (x y : ℕ → A) (old : List A) (d : A) {n i : ℕ} → i < n → get_or (over (each (λ i. x i ∷ y i ∷ []) n) old) (2 * i + 1) d ≡ y i
+second_read x y old d {n} l = over_at (each (λ i. x i ∷ y i ∷ []) n) old d (rw (pairs_length x y n) (omega arith)) ∙ pairs_second x y d l
+
 pub over_length : {A : Type 0} (new old : List A) → length new ≤ length old → length (over new old) ≡ length old
 unfolding over
 over_length new old h = simp (length-append, length-drop) (omega arith)
