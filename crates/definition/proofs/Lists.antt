@@ -85,10 +85,15 @@ pub over_length : {A : Type 0} (new old : List A) → length new ≤ length old 
 unfolding over
 over_length new old h = simp (length-append, length-drop) (omega arith)
 
--- one entry more is a store at the first place that is not yet new
+-- one entry more is a store at the first place that is not yet new, and two are two stores
 pub over_next : {A : Type 0} (new old : List A) (x : A) → length new < length old → over (new ++ x ∷ []) old ≡ set (over new old) (length new) x
 unfolding over
 over_next new old x l = rw (length-append, add-one, append_assoc, drop-cons old (length new) x l, set-append_seam)
+
+pub over_two : {A : Type 0} (new old : List A) (x y : A) → length new + 1 < length old → over (new ++ x ∷ y ∷ []) old ≡ set (set (over new old) (length new) x) (length new + 1) y
+over_two new old x y l =
+    let more : length (new ++ x ∷ []) ≡ length new + 1 = length-append new (x ∷ []) in
+    rw (← append_assoc new (x ∷ []) (y ∷ []), over_next (new ++ x ∷ []) old y (rw more l), more, over_next new old x (omega arith))
 
 pub over_value : {A : Type 0} (v : ℕ → A) (n : ℕ) (old : List A) → n < length old → over (values v (n + 1)) old ≡ set (over (values v n) old) n (v n)
 over_value v n old l =
@@ -100,8 +105,7 @@ pub over_pair : {A : Type 0} (x y : ℕ → A) (k : ℕ) (old : List A) → 2 * 
 over_pair x y k old l =
     let new = each (λ i. x i ∷ y i ∷ []) k in
     let size : length new ≡ 2 * k = pairs_length x y k in
-    let more : length (new ++ x k ∷ []) ≡ 2 * k + 1 = rw (length-append, size) in
-    rw (each_more, ← append_assoc new (x k ∷ []) (y k ∷ []), over_next (new ++ x k ∷ []) old (y k) (rw more l), more, over_next new old (x k) (rw size (omega arith)), size)
+    rw (each_more, over_two new old (x k) (y k) (rw size l), size)
 
 -- ---- a test of every number below n
 
