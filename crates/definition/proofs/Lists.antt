@@ -8,7 +8,7 @@ use native.Mathlib.Nat.{le_refl, le_step, le_of_suc-le-suc, not-suc-le-zero, eq-
 use native.Mathlib.Numerals.{add-one}
 use native.Mathlib.Omega.{arith}
 use lib.ListN.{length, get_or, set, take, drop, length-append, length-drop, get_or-append}
-use lib.Seq.{take-append_seam, set-append_seam, drop-cons, get_or-append-add}
+use lib.Seq.{take-append_seam, set-append_seam, drop-cons, get_or-append-add, ext_get_or}
 use Rattle.std.proofs.lemmas.Bool.{and_parts}
 use Rattle.definition.specs.Lists.{each, over, every}
 use Rattle.definition.specs.Query.{values}
@@ -51,6 +51,10 @@ values_length v n = each_length (λ i. v i ∷ []) (λ i l. refl) ∙ one-mul n
 
 pub values_at : {A : Type 0} (v : ℕ → A) {n i : ℕ} (d : A) → i < n → get_or (values v n) i d ≡ v i
 values_at v d l = simp (one-mul, add-zero) at (each_at (λ i. v i ∷ []) {j = 0} d (λ i l. refl) l (omega arith))
+
+-- a list of n entries, read one by one
+pub values_is : {A : Type 0} (d : A) {l : List A} {v : ℕ → A} {n : ℕ} → length l ≡ n → ((i : ℕ) → i < n → get_or l i d ≡ v i) → l ≡ values v n
+values_is d {l} {v} {n} size e = ext_get_or d l (values v n) (size ∙ sym (values_length v n)) (λ i h. let below : i < n = rw size at h in e i below ∙ sym (values_at v d below))
 
 pub pairs_length : {A : Type 0} (x y : ℕ → A) (n : ℕ) → length (each (λ i. x i ∷ y i ∷ []) n) ≡ 2 * n
 pairs_length x y n = each_length (λ i. x i ∷ y i ∷ []) (λ i l. refl)
