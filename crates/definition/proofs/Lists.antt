@@ -29,11 +29,16 @@ unfolding each
 map_each f g zero = refl
 map_each f g (suc n) = map-append f (each g n) (g n) ∙ ap (λ l. l ++ map f (g n)) (map_each f g n)
 
--- parts of k entries each
+-- parts of k entries each, and of at most k
 pub each_length : {A : Type 0} (g : ℕ → List A) {k n : ℕ} → ((i : ℕ) → i < n → length (g i) ≡ k) → length (each g n) ≡ k * n
 unfolding each
 each_length g {n = zero} e = omega arith
 each_length g {n = suc n} e = rw (length-append, each_length g (λ i l. e i (le_step l)), e n (le_refl (suc n))) (omega arith)
+
+pub each_most : {A : Type 0} (g : ℕ → List A) {k n : ℕ} → ((i : ℕ) → i < n → length (g i) ≤ k) → length (each g n) ≤ k * n
+unfolding each
+each_most g {n = zero} h = omega arith
+each_most g {k} {n = suc n} h = rw length-append (omega (arith, each_most g (λ i l. h i (le_step l)), h n (le_refl (suc n))))
 
 pub each_at : {A : Type 0} (g : ℕ → List A) {k n i j : ℕ} (d : A) → ((i : ℕ) → i < n → length (g i) ≡ k) → i < n → j < k → get_or (each g n) (k * i + j) d ≡ get_or (g i) j d
 unfolding each
