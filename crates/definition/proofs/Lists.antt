@@ -2,13 +2,14 @@
 use mathlib.Core.Path.{◌≡◌, refl, sym, ap, ap₂, ◌∙◌}
 use mathlib.Core.Logic.{inl, inr}
 use mathlib.Core.Bool.{Bool, true, false, ◌&&◌}
-use mathlib.Core.List.{List, [], ◌∷◌, ◌++◌, map, map-append, append_assoc}
+use mathlib.Core.List.{List, [], ◌∷◌, ◌++◌, map, map-append, append_assoc, append-nil}
 use Prim.Native.Nat.{ℕ, zero, suc, ◌+◌, ◌*◌, ◌≤◌, ◌<◌}
 use native.Mathlib.Nat.{le_refl, le_step, le_of_suc-le-suc, not-suc-le-zero, eq-or-lt_of_le, mul-le-mul_left, one-mul, add-zero}
 use native.Mathlib.Numerals.{add-one}
 use native.Mathlib.Omega.{arith}
 use lib.ListN.{length, get_or, set, take, drop, length-append, length-drop, get_or-append}
-use lib.Seq.{take-append_seam, set-append_seam, drop-cons, get_or-append-add, ext_get_or}
+use lib.Seq.{take-append_seam, set-append_seam, drop-cons, get_or-append-add, ext_get_or, append_snoc}
+use Rattle.std.proofs.Common.{fold}
 use Rattle.std.proofs.lemmas.Bool.{and_parts}
 use Rattle.definition.specs.Lists.{each, over, every}
 use Rattle.definition.specs.Query.{values}
@@ -69,6 +70,13 @@ pairs_first x y d l = simp add-zero at (each_at (λ i. x i ∷ y i ∷ []) {j = 
 
 pub pairs_second : {A : Type 0} (x y : ℕ → A) {n i : ℕ} (d : A) → i < n → get_or (each (λ i. x i ∷ y i ∷ []) n) (2 * i + 1) d ≡ y i
 pairs_second x y d l = each_at (λ i. x i ∷ y i ∷ []) d (λ i l. refl) l (omega arith)
+
+-- ---- a list taken up entry by entry
+
+-- where one entry more is one step more, all that come after are a fold
+pub fold_on : {A B : Type 0} (f : B → A → B) (g : List A → B) {n : ℕ} → ((before : List A) (x : A) → length before < n → f (g before) x ≡ g (before ++ x ∷ [])) → (before l : List A) → length before + length l ≤ n → fold f (g before) l ≡ g (before ++ l)
+fold_on f g step before [] h = rw append-nil
+fold_on f g step before (x ∷ l) h = rw (step before x (omega arith), ← append_snoc before x l) (fold_on f g step (before ++ x ∷ []) l (rw length-append (omega arith)))
 
 -- ---- a list written over
 
