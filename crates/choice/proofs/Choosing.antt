@@ -3,15 +3,12 @@ use mathlib.Core.Path.{◌≡◌, refl, ap, ◌∙◌}
 use mathlib.Core.Bool.{Bool, true, false, cond}
 use Prim.Native.Nat.{ℕ, ◌+◌}
 use native.Mathlib.Numerals.{add-one}
-use lib.Dec.{T, not_T}
-use lib.Ieee.{Float, binary64, fits, lt}
-use lib.Ieee.Bits.{is_false}
+use lib.Ieee.{Float, lt}
 use Rattle.std.proofs.Common.{Option, Some, None}
 use Rattle.definition.specs.Root.{root_of}
 use Rattle.definition.specs.Choice.{pick}
 use Rattle.definition.specs.Search.{nearer}
 use Rattle.definition.specs.declared.Best.{Best}
-use Rattle.definition.proofs.Root.{root_not_lt}
 use Rattle.definition.proofs.Choice.{pick_more}
 use Rattle.choice.specs.Nearest.{distance_to, IsNearest}
 use Rattle.choice.specs.declared.near.Near.{Near}
@@ -47,10 +44,6 @@ module _ {A : Type 0} (found_at : ℕ → Best A) (near : Near A) where
   pub first_is : near.number ≡ 0 → near.best ≡ found_at 0 → IsNearest found_at 0 near
   unfolding pick
   first_is i b = (i, rw i b)
-
--- the root keeps the order: where a square is not smaller, its root is not
-pub rooted_not_smaller : (x y : Float) → T (fits binary64 x) → T (fits binary64 y) → lt x y ≡ false → lt (root_of x) (root_of y) ≡ false
-rooted_not_smaller x y f g h = is_false (lt (root_of x) (root_of y)) (not_T (lt (root_of x) (root_of y)) (root_not_lt x y f g (λ t. rw h at t)))
 
 -- what an answer says of its test
 pub is_smaller : (b : Bool) (x : Float) {y : Float} {r : Option Float} → r ≡ cond b (Some x) None → r ≡ Some y → b ≡ true

@@ -14,7 +14,7 @@ use lib.IntN.{ℤ}
 use lib.Dec.{T, not_T}
 use lib.Pow.{pow_pos}
 use lib.Ieee.{Float, nan, inf, fin, binary64, fits, is_nan, of_bits, lt, le}
-use lib.Ieee.Bits.{of_bits-fits}
+use lib.Ieee.Bits.{of_bits-fits, is_false}
 use lib.Ieee.Fits.{nan-fits}
 use Rattle.std.proofs.lemmas.Float.{le_of_not-lt, lt_irrefl, lt_of_le_of_lt}
 use Rattle.definition.specs.Root.{in_units, plain, Held, IsRoot, isqrt, root_units, root_of}
@@ -166,6 +166,9 @@ root_lt (fin false (suc m) e) (fin false (suc n) d) f g h = plain_lt m e n d f g
 -- where x is not below y, neither is its root
 pub root_not_lt : (x y : Float) → T (fits binary64 x) → T (fits binary64 y) → (T (lt x y) → ⊥) → T (lt (root_of x) (root_of y)) → ⊥
 root_not_lt x y f g n h = n (root_lt x y f g h)
+
+pub root_not_smaller : (x y : Float) → T (fits binary64 x) → T (fits binary64 y) → lt x y ≡ false → lt (root_of x) (root_of y) ≡ false
+root_not_smaller x y f g h = is_false (lt (root_of x) (root_of y)) (not_T (lt (root_of x) (root_of y)) (root_not_lt x y f g (λ t. rw h at t)))
 
 -- the root of the lesser is the lesser, where both roots are numbers
 pub root_le : (x y : Float) → T (fits binary64 x) → T (fits binary64 y) → T (not (is_nan (root_of x))) → T (not (is_nan (root_of y))) → T (le x y) → T (le (root_of x) (root_of y))

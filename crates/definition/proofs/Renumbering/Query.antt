@@ -20,8 +20,9 @@ use Rattle.definition.specs.Renumbering.{within, Renumbering, Renumbered, NoNan,
 use Rattle.definition.specs.declared.Point.{Point}
 use Rattle.definition.proofs.Lists.{value_read}
 use Rattle.definition.proofs.Passing.{passes, asked_passed, asked_accepted}
+use Rattle.definition.proofs.Root.{root_not_smaller}
 use Rattle.definition.proofs.Renumbering.Moves.{moved_pair, within_permutes}
-use Rattle.definition.proofs.Renumbering.Distance.{IsNumber, square_is_distance, root_number, root_keeps_least, element_distance_is, face_distance_is}
+use Rattle.definition.proofs.Renumbering.Distance.{IsNumber, square_is_distance, root_number, element_distance_is, face_distance_is}
 use Rattle.definition.proofs.Renumbering.FirstMinimum.{Choice, choice}
 use Rattle.definition.proofs.Renumbering.Mesh.{Passed, passed_says, nodes_count, elements_count, points_count, gathered_same, point_same, query_passes}
 
@@ -135,7 +136,7 @@ named q l p v numbers node element face =
     record {
       node = rw v.node node;
       node_distance_is = v.node_distance_is ∙ ap (node_distance m k t) (sym v.node);
-      node_least = λ i h. rw v.node_distance_is (root_keeps_least (node_square m k t (pick (node_square m k t) (node_count m))) (node_square m k t i) (numbers (pick (node_square m k t) (node_count m)) node.inside).is_distance (numbers i h).is_distance (node.least i h));
+      node_least = λ i h. rw v.node_distance_is (root_not_smaller (node_square m k t i) (node_square m k t (pick (node_square m k t) (node_count m))) (numbers i h).is_distance.fitting (numbers (pick (node_square m k t) (node_count m)) node.inside).is_distance.fitting (node.least i h));
       element = rw v.element element;
       element_distance_is = v.element_distance_is ∙ ap (element_distance m k t) (sym v.element);
       local_face = rw v.local_face (mod-lt f (omega arith));
