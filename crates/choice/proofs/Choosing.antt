@@ -3,17 +3,16 @@ use mathlib.Core.Path.{◌≡◌, refl, ap, sym, ◌∙◌}
 use mathlib.Core.Bool.{Bool, true, false, cond}
 use Prim.Native.Nat.{ℕ, ◌+◌}
 use native.Mathlib.Numerals.{add-one}
-use lib.Dec.{T, not_T}
+use lib.Dec.{T}
 use lib.Ieee.{Float, binary64, fits, lt}
-use lib.Ieee.Bits.{is_false}
 use Rattle.std.proofs.Common.{Option, Some, None, is_some, IfSome, MatchOption}
 use Rattle.std.specs.Bool.{then_some}
 use Rattle.definition.specs.Root.{root_of}
 use Rattle.definition.specs.Choice.{pick}
 use Rattle.definition.specs.Search.{nearer}
 use Rattle.definition.specs.declared.Best.{Best}
-use Rattle.definition.proofs.Root.{root_not_lt}
 use Rattle.definition.proofs.Choice.{pick_more}
+use Rattle.definition.proofs.Root.{root_not_smaller}
 use Rattle.choice.specs.Nearest.{distance_to, IsNearest}
 use Rattle.choice.specs.declared.near.Near.{Near}
 
@@ -49,16 +48,12 @@ module _ {A : Type 0} (found_at : ℕ → Best A) (near : Near A) where
   unfolding pick
   first_is i b = (i, rw i b)
 
--- the root keeps the order: where a square is not smaller, its root is not
-pub rooted_not_smaller : (x y : Float) → T (fits binary64 x) → T (fits binary64 y) → lt x y ≡ false → lt (root_of x) (root_of y) ≡ false
-rooted_not_smaller x y f g h = is_false (lt (root_of x) (root_of y)) (not_T (lt (root_of x) (root_of y)) (root_not_lt x y f g (λ t. rw h at t)))
-
 -- a root that was taken where the square is smaller, and kept where the root is too
 pub smaller_kept : (x y : Float) (taken : Option Float) {d : Float} {kept : Option Float} (Taken : Float → Type 0) (Tested : Float → Bool → Type 0) → T (fits binary64 x) → T (fits binary64 y) → d ≡ root_of y →
     is_some taken ≡ lt x y → IfSome taken Taken → ((v : Float) → Taken v → v ≡ root_of x) →
     MatchOption taken (kept ≡ None) (λ v. (b : Bool) × Tested v b × (kept ≡ then_some b v)) → ((v : Float) (b : Bool) → Tested v b → b ≡ lt v d) →
     kept ≡ then_some (lt (root_of x) d) (root_of x)
-smaller_kept x y None Taken Tested f g p s i root m test = rw (p, rooted_not_smaller x y f g (sym s)) m
+smaller_kept x y None Taken Tested f g p s i root m test = rw (p, root_not_smaller x y f g (sym s)) m
 smaller_kept x y (Some v) Taken Tested f g p s i root m test = rw (← root v i, ← test v m.0 m.1) m.2
 
 -- what an answer says of its test

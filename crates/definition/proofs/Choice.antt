@@ -3,11 +3,11 @@
 use mathlib.Core.Path.{◌≡◌, refl}
 use mathlib.Core.Bool.{Bool, true, false, cond}
 use mathlib.Core.List.{[], ◌∷◌}
-use Prim.Native.Nat.{ℕ, zero, suc, ◌*◌}
-use native.Mathlib.Nat.{lt_irrefl}
-use lib.Dec.{T, eqb, ltb, ltb→lt, not_T}
-use lib.Ieee.{Float, nan, inf, fin, up, down, lt}
+use Prim.Native.Nat.{ℕ, zero, suc}
+use lib.Dec.{eqb, not_T}
+use lib.Ieee.{Float, nan, lt}
 use lib.Ieee.Bits.{is_false}
+use Rattle.std.proofs.lemmas.Float.{lt_irrefl}
 use Rattle.definition.specs.Binary64.{plus0, one}
 use Rattle.definition.specs.Mesh.{Mesh}
 use Rattle.definition.specs.Choice.{pick, point_answer}
@@ -18,16 +18,8 @@ use Rattle.definition.proofs.Computing.{searching, querying}
 use Rattle.definition.proofs.Written.{two_to_minus, at}
 
 -- nothing is below itself
-not_below_itself : (n : ℕ) → ltb n n ≡ false
-not_below_itself n = is_false (ltb n n) (not_T (ltb n n) (λ (h : T (ltb n n)). lt_irrefl n (ltb→lt n n h)))
-
 pub lt_self : (x : Float) → lt x x ≡ false
-unfolding lt
-lt_self nan = refl
-lt_self (inf true) = refl
-lt_self (inf false) = refl
-lt_self (fin true m e) = not_below_itself (m * up e * down e)
-lt_self (fin false m e) = not_below_itself (m * up e * down e)
+lt_self x = is_false (lt x x) (not_T (lt x x) (lt_irrefl x))
 
 -- one more, also where it is the first
 pub pick_more : (d : ℕ → Float) (n : ℕ) → pick d (suc n) ≡ cond (lt (d n) (d (pick d n))) n (pick d n)

@@ -11,5 +11,6 @@ pub mod Choice
 pub mod Asking
 pub mod Rows
 pub mod Lists
+pub mod Families
 pub mod Passing
 pub mod Renumbering

@@ -5,8 +5,9 @@ use mathlib.Core.Bool.{Bool, true, false, cond, ◌&&◌, and_assoc}
 use mathlib.Core.List.{List, [], ◌∷◌, ◌++◌, append-nil}
 use Prim.Native.Nat.{ℕ, zero, suc, ◌<◌}
 use native.Mathlib.Nat.{le_of_suc-le-suc, not-suc-le-zero, eq-or-lt_of_le}
+use Rattle.std.proofs.lemmas.Bool.{and_parts}
 use Rattle.definition.specs.Lists.{each, every}
-use Rattle.definition.specs.Questions.{Question, accepted, refused, asked, onward}
+use Rattle.definition.specs.Questions.{Question, Outcome, ask, accepted, refused, asked, onward}
 
 -- whether all questions of a list hold
 unfoldable pub passes : List Question → Bool
@@ -46,6 +47,11 @@ asked_accepted qs {v} {w} h = by (passes qs) (asked_is qs v).2
     by true e = (refl, cc)
     by false e = (cc, cc)
 
+-- one question that passes holds
+pub held : (number place : ℕ) {b : Bool} → accepted tt ≡ asked (ask number place b ∷ []) (tt {0}) → b ≡ true
+unfolding passes
+held number place {b} h = (and_parts b true (asked_accepted (ask number place b ∷ []) (sym h)).0).0
+
 -- ---- questions one part after the other
 
 pub asked_append : {A : Type 0} (qs rs : List Question) (v : A) → asked (qs ++ rs) v ≡ onward (asked qs (tt {0})) (asked rs v)
@@ -61,6 +67,10 @@ asked_append (q ∷ qs) rs v =
 pub asked_value : {A : Type 0} (qs : List Question) (v : A) → asked qs v ≡ onward (asked qs (tt {0})) (accepted v)
 unfolding asked
 asked_value qs v = rw (append-nil qs) at (asked_append qs [] v)
+
+-- what questions come to for no value is what they come to for any
+pub asked_with : {A : Type 0} (qs : List Question) (v : A) {o : Outcome (Unit {0})} → o ≡ asked qs (tt {0}) → asked qs v ≡ onward o (accepted v)
+asked_with qs v h = asked_value qs v ∙ rw (← h)
 
 -- questions of one place after the other: all hold, or the first place whose questions do not all hold gives the answer
 pub all_asked : {A : Type 0} (g : ℕ → List Question) (n : ℕ) (v : A) → every (λ i. passes (g i)) n ≡ true → asked (each g n) v ≡ accepted v

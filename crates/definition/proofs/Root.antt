@@ -6,22 +6,23 @@ pub mod Near
 pub mod Scaled
 pub mod Order
 use mathlib.Core.Path.{◌≡◌, refl}
-use mathlib.Core.Bool.{Bool, true, false, not, ◌||◌}
+use mathlib.Core.Bool.{Bool, true, false, not}
 use Prim.Native.Nat.{ℕ, zero, suc, ◌+◌, ◌*◌, ◌/◌, ◌^◌, ◌≤◌, ◌<◌}
 use native.Mathlib.Nat.{le_of_lt, mul-pos, lt_of_mul-lt-mul_right}
 use native.Mathlib.Omega.{arith}
 use lib.IntN.{ℤ}
-use lib.Dec.{T, T_not, not_T}
+use lib.Dec.{T, not_T}
 use lib.Pow.{pow_pos}
 use lib.Ieee.{Float, nan, inf, fin, binary64, fits, is_nan, of_bits, lt, le}
 use lib.Ieee.Bits.{of_bits-fits, is_false}
 use lib.Ieee.Fits.{nan-fits}
+use Rattle.std.proofs.lemmas.Float.{le_of_not-lt, lt_irrefl, lt_of_le_of_lt}
 use Rattle.definition.specs.Root.{in_units, plain, Held, IsRoot, isqrt, root_units, root_of}
 use Isqrt.{Whole, isqrt_whole}
 use Units.{Counted, counted, above_zero, grain_held, of_value, significand_value, units_only}
 use Near.{Nearer, near, nearer_only, nearer_no_tie}
 use Scaled.{scaled, root_units_at, quad_lt, root_least, root_most}
-use Order.{lt_units, zero_below, not_below_zero, inf_lt, lt_nan, le_is}
+use Order.{lt_units, zero_below, not_below_zero, inf_lt, lt_nan}
 
 -- r is the nearest value to the root of n units, above 0, and no other is as near
 pub record Nearest (n : ℕ) (r : Float) : Type 0 where
@@ -166,12 +167,9 @@ root_lt (fin false (suc m) e) (fin false (suc n) d) f g h = plain_lt m e n d f g
 pub root_not_lt : (x y : Float) → T (fits binary64 x) → T (fits binary64 y) → (T (lt x y) → ⊥) → T (lt (root_of x) (root_of y)) → ⊥
 root_not_lt x y f g n h = n (root_lt x y f g h)
 
+pub root_not_smaller : (x y : Float) → T (fits binary64 x) → T (fits binary64 y) → lt x y ≡ false → lt (root_of x) (root_of y) ≡ false
+root_not_smaller x y f g h = is_false (lt (root_of x) (root_of y)) (not_T (lt (root_of x) (root_of y)) (root_not_lt x y f g (λ t. rw h at t)))
+
 -- the root of the lesser is the lesser, where both roots are numbers
 pub root_le : (x y : Float) → T (fits binary64 x) → T (fits binary64 y) → T (not (is_nan (root_of x))) → T (not (is_nan (root_of y))) → T (le x y) → T (le (root_of x) (root_of y))
-root_le x y f g p q h =
-    rw (le_is (root_of x) (root_of y), is_false (is_nan (root_of x)) p, is_false (is_nan (root_of y)) q)
-    (not_T (lt (root_of y) (root_of x)) (λ k. T_not (is_nan x || is_nan y || lt y x) (rw le_is at h) (or_r (is_nan x || is_nan y) (lt y x) (root_lt y x g f k))))
-  where
-    or_r : (a b : Bool) → T b → T (a || b)
-    or_r true b t = tt
-    or_r false b t = t
+root_le x y f g p q h = le_of_not-lt (root_of y) (root_of x) q p (not_T (lt (root_of y) (root_of x)) (λ k. lt_irrefl x (lt_of_le_of_lt x y x h (root_lt y x g f k))))

@@ -1,27 +1,18 @@
 -- What a query's promise says of its listing: each answer is read back from the places to which it was written. Assumes nothing.
-use Rattle.std.proofs.Common.{◌≡◌, refl, sym, ap, ◌∙◌, Result, Ok, Err, List, [], ◌∷◌, ◌++◌, ℕ, ◌+◌, ◌*◌, ◌≤◌, ◌<◌, length, get_or, arith}
+use Rattle.std.proofs.Common.{◌≡◌, refl, sym, ap, Result, Ok, Err, ◌++◌, ℕ, ◌≤◌, ◌<◌, length, arith}
 use lib.Ieee.{nan}
-use Rattle.definition.specs.Lists.{each, over}
+use Rattle.definition.specs.Lists.{over}
 use Rattle.definition.specs.Query.{QueryCall, QueryLists, answer_at, query_questions, queried, values, answers_over, QueryPromise}
 use Rattle.definition.specs.Job.{counts_line, point_line, own_lists, query_listing}
 use Rattle.definition.specs.declared.QueryCounts.{QueryCounts}
 use Rattle.definition.specs.declared.Refusal.{Refusal}
-use Rattle.definition.proofs.Lists.{each_same, values_length, values_at, pairs_length, pairs_first, pairs_second, over_at, over_length}
+use Rattle.definition.proofs.Lists.{each_same, values_length, over_length, value_read, first_read, second_read}
 use Rattle.definition.proofs.Passing.{asked_accepted}
 use Rattle.listing.specs.Page.{Puts}
 use Rattle.listing.specs.declared.Page.{Page}
 use Rattle.listing.specs.Answers.{answer_in, listed_of, answer_listing}
 
--- ---- one place of a list with the answers over it
-
-value_read : {A : Type 0} (v : ℕ → A) (old : List A) (d : A) {n p : ℕ} → p < n → get_or (over (values v n) old) p d ≡ v p
-value_read v old d {n} l = over_at (values v n) old d (rw (values_length v n) l) ∙ values_at v d l
-
-first_read : {A : Type 0} (x y : ℕ → A) (old : List A) (d : A) {n p : ℕ} → p < n → get_or (over (each (λ i. x i ∷ y i ∷ []) n) old) (2 * p) d ≡ x p
-first_read x y old d {n} l = over_at (each (λ i. x i ∷ y i ∷ []) n) old d (rw (pairs_length x y n) (omega arith)) ∙ pairs_first x y d l
-
-second_read : {A : Type 0} (x y : ℕ → A) (old : List A) (d : A) {n p : ℕ} → p < n → get_or (over (each (λ i. x i ∷ y i ∷ []) n) old) (2 * p + 1) d ≡ y p
-second_read x y old d {n} l = over_at (each (λ i. x i ∷ y i ∷ []) n) old d (rw (pairs_length x y n) (omega arith)) ∙ pairs_second x y d l
+-- ---- one place of the lists with the answers over them
 
 answers_read : (q : QueryCall) (lent : QueryLists) {n p : ℕ} → p < n → answer_in (answers_over q n lent) p ≡ answer_at q p
 unfolding answers_over

@@ -9,6 +9,7 @@ use borrow.Author.Tests.{leb-true, ltb-true, lt-ltb}
 use lib.Dec.{ltb}
 use lib.ListN.{length, length-append, length-map}
 use lib.Ieee.{Float, binary64, lt, of_bits}
+use Rattle.std.proofs.lemmas.Bool.{and_parts}
 use Rattle.definition.specs.Lists.{count_of}
 use Rattle.definition.specs.Elements.{nodes_of}
 use Rattle.definition.specs.Search.{closest_reference_point, closest_face_point}
@@ -18,11 +19,11 @@ use Rattle.definition.specs.Questions.{Question, Outcome, ask, accepted, refused
 use Rattle.definition.specs.declared.QueryCounts.{QueryCounts}
 use Rattle.definition.specs.Query.{QueryCall, QueryLists, query_questions, answer_at, inside_count, queried}
 use Rattle.definition.specs.Job.{Job, within_limits, read_job, query_of, own_lists, refusal_line, point_line, query_listing, job_listing, listing, longest_listing}
-use Rattle.definition.proofs.Lists.{map_each, every_of, and_parts}
+use Rattle.definition.proofs.Lists.{map_each, each_most, every_of}
 use Rattle.definition.proofs.Passing.{passes, passes_append, passes_each}
 use Rattle.definition.proofs.Choice.{pick_more}
 use Rattle.records.proofs.Prefix.{accepted_within, refused_small}
-use Rattle.listing.proofs.Lengths.{refusal_length, counts_length, point_length, lines_length}
+use Rattle.listing.proofs.Lengths.{refusal_length, counts_length, point_length}
 
 -- ---- a count is at most the numbers that it counts, and so is the number that is picked
 
@@ -94,7 +95,7 @@ module _ (q : QueryCall) (nodes : node_count q.mesh ≤ 512) (elements : element
   query_length lent =
       let c : QueryCounts = record { points = pair_count q.points; repeated = repeated_count q.mesh; inside = inside_count q } in
       let first = counts_length c (omega arith) (omega (arith, repeated_most q.mesh)) (omega (arith, inside_most q)) in
-      let others = lines_length (λ p. point_line p (answer_at q p)) {n = c.points} (λ p l. answer_length (omega arith)) in
+      let others = each_most (λ p. point_line p (answer_at q p)) {n = c.points} (λ p l. answer_length (omega arith)) in
       asked_length q (query_questions q lent) c (questions_sized lent) (rw length-append (omega arith))
 
 -- ---- the job

@@ -1,14 +1,12 @@
 -- How long the listing's lines are at most: a decimal text by its number's power of ten, a float's by its 16 digits, and each line by its fields. Assumes nothing.
 use mathlib.Core.Path.{◌≡◌, refl}
 use mathlib.Core.Bool.{true, false, cond}
-use mathlib.Core.List.{List}
 use Prim.Native.Nat.{ℕ, zero, suc, ◌*◌, ◌/◌, ◌^◌, ◌≤◌, ◌<◌}
-use native.Mathlib.Nat.{le_refl, le_step, pow-suc}
+use native.Mathlib.Nat.{le_refl, pow-suc}
 use native.Mathlib.Decide.{dec_lt}
 use native.Mathlib.Omega.{arith}
 use lib.ListN.{length, length-append}
 use lib.Ieee.{Float, binary64, is_nan, to_bits}
-use Rattle.definition.specs.Lists.{each}
 use Rattle.definition.specs.Job.{text, digits, decimal, hexadecimal, line, refusal_line, counts_line, point_line}
 use Rattle.definition.specs.declared.QueryCounts.{QueryCounts}
 use Rattle.definition.specs.declared.PointAnswer.{PointAnswer}
@@ -64,9 +62,3 @@ point_length a h i j k l =
       hexadecimal_length a.face.s,
       hexadecimal_length a.face.distance,
     ))
-
--- n lines of at most k bytes
-pub lines_length : (g : ℕ → List ℕ) {k n : ℕ} → ((i : ℕ) → i < n → length (g i) ≤ k) → length (each g n) ≤ k * n
-unfolding each
-lines_length g {n = zero} h = omega arith
-lines_length g {k} {n = suc n} h = rw length-append (omega (arith, lines_length g (λ i l. h i (le_step l)), h n (le_refl (suc n))))

@@ -1,21 +1,17 @@
--- Texts put one after the other are one text, and a text that has room from place 0 on is written over the output: by induction on the text. Assumes nothing.
+-- Texts put one after the other are one text, and a text that has room from place 0 on is written over the output: by the laws of a fold. Assumes nothing.
 use mathlib.Core.Path.{◌≡◌, refl, ◌∙◌}
-use mathlib.Core.List.{List, [], ◌∷◌, ◌++◌, append-nil}
+use mathlib.Core.List.{List, [], ◌∷◌, ◌++◌}
 use Prim.Native.Nat.{ℕ, ◌+◌, ◌≤◌, ◌<◌}
 use native.Mathlib.Numerals.{add-one}
 use native.Mathlib.Omega.{arith}
 use lib.ListN.{length, get_or, take, length-append}
-use lib.Seq.{append_snoc, take-suc}
+use lib.Seq.{take-suc}
 use borrow.Author.Tests.{lt-ltb}
+use Rattle.std.proofs.lemmas.List.Sums.{fold-append}
 use Rattle.definition.specs.Lists.{each, over}
-use Rattle.definition.proofs.Lists.{each_more, over_length, over_next}
-use Rattle.listing.specs.Page.{Page, page, stored, typed, held, Puts}
+use Rattle.definition.proofs.Lists.{each_more, fold_on, over_length, over_next}
+use Rattle.listing.specs.Page.{page, stored, typed, held, Puts}
 use Rattle.listing.specs.declared.Page.{Page as LentPage}
-
-typed_append : (p : Page) (a b : List ℕ) → typed (typed p a) b ≡ typed p (a ++ b)
-unfolding typed
-typed_append p [] b = refl
-typed_append p (x ∷ a) b = typed_append (stored p x) a b
 
 -- no text, and one text after another
 pub puts_none : (p : LentPage) → Puts p p []
@@ -23,7 +19,8 @@ unfolding typed
 puts_none p = record { same = refl; text = refl }
 
 pub puts_on : {p q r : LentPage} {a b : List ℕ} → Puts p q a → Puts q r b → Puts p r (a ++ b)
-puts_on {p} {q} {r} {a} {b} first second = record { same = second.same ∙ first.same; text = let e = first.text in let h = second.text in cc (typed_append (held p) a b) }
+unfolding typed
+puts_on {p} {q} {r} {a} {b} first second = record { same = second.same ∙ first.same; text = let e = first.text in let h = second.text in cc (fold-append stored (held p) a b) }
 
 -- one byte more of a text
 pub puts_next : {p q r : LentPage} (t : List ℕ) (i : ℕ) → i < length t → Puts p q (take i t) → Puts q r (get_or t i 0 ∷ []) → Puts p r (take (i + 1) t)
@@ -42,11 +39,6 @@ module _ (l : List ℕ) where
       let fits : length done < length (over done l) = rw (over_length done l (omega arith)) h in
       rw (lt-ltb (length done) (length (over done l)) fits, over_next done l b h, length-append)
 
-  typed_after : (done t : List ℕ) → length done + length t ≤ length l → typed (page (over done l) (length done)) t ≡ page (over (done ++ t) l) (length (done ++ t))
-  unfolding typed
-  typed_after done [] h = rw append-nil
-  typed_after done (b ∷ t) h = rw (stored_after done b (omega arith), ← append_snoc done b t) (typed_after (done ++ b ∷ []) t (rw length-append (omega arith)))
-
   pub typed_over : (t : List ℕ) → length t ≤ length l → typed (page l 0) t ≡ page (over t l) (length t)
-  unfolding over
-  typed_over t h = typed_after [] t (omega arith)
+  unfolding typed over
+  typed_over t h = fold_on stored (λ done. page (over done l) (length done)) stored_after [] t (omega arith)

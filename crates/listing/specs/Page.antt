@@ -1,5 +1,5 @@
 -- A text put into a lent output from a place on. What has no room is left out, so there is an answer for every place and every length.
-use Rattle.std.specs.Prelude.{◌≡◌, cond, List, [], ◌∷◌, ℕ, ◌+◌, ltb, length, set}
+use Rattle.std.specs.Prelude.{◌≡◌, cond, List, ℕ, ◌+◌, ltb, length, set, fold}
 use Rattle.listing.specs.declared.Page.{Page as LentPage}
 
 -- a lent output's bytes, and the place of the next byte
@@ -16,8 +16,7 @@ stored p b = cond (ltb p.at (length p.bytes)) (page (set p.bytes p.at b) (p.at +
 
 -- the page with a text more, byte after byte
 unfoldable pub typed : Page → List ℕ → Page
-typed p [] = p
-typed p (b ∷ t) = typed (stored p b) t
+typed p t = fold stored p t
 
 -- ---- the page as the code holds it
 

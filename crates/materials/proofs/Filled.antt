@@ -1,15 +1,14 @@
 -- An array made from a function of the place. Assumes nothing.
-use mathlib.Core.Path.{◌≡◌, sym, ◌∙◌}
+use mathlib.Core.Path.{◌≡◌, ◌∙◌}
 use mathlib.Core.List.{List}
 use Prim.Native.Nat.{ℕ, zero, suc, ◌+◌, ◌<◌}
 use native.Mathlib.Omega.{arith}
 use lib.ListN.{get_or}
-use lib.Seq.{ext_get_or}
 use denote.Param.Members.{Mut}
 use Rattle.std.specs.Fn.{Called}
 use Rattle.std.specs.Array.{IsFromFnResult, IsFromFnResultFrom}
 use Rattle.definition.specs.Query.{values}
-use Rattle.definition.proofs.Lists.{values_length, values_at}
+use Rattle.definition.proofs.Lists.{values_is}
 
 module _ {F A : Type 0} (g : Mut F (ℕ × Unit {0}) A) (I : F → Type 0) (v : ℕ → A) (step : (f : F) (i : ℕ) (y : A) (q : F) → I f → Called g f (i, tt) y q → (y ≡ v i) × I q) where
   each_made : (d : A) (f : F) (ys : List A) (i n k j : ℕ) → I f → IsFromFnResultFrom g f ys i n → k < n → j ≡ i + k → get_or ys j d ≡ v j
@@ -18,4 +17,4 @@ module _ {F A : Type 0} (g : Mut F (ℕ × Unit {0}) A) (I : F → Type 0) (v : 
   each_made d f ys i (suc n) (suc k) j a h l e = each_made d h.0 ys (i + 1) n k j (step f i h.1 h.0 a h.3).1 h.4 (omega arith) (omega arith)
 
   pub made : (d : A) {f : F} {ys : List A} {n : ℕ} → I f → IsFromFnResult g f ys n → ys ≡ values v n
-  made d {f} {ys} {n} a h = ext_get_or d ys (values v n) (h.long ∙ sym (values_length v n)) (λ i m. let l : i < n = rw h.long at m in each_made d f ys 0 n i i a h.each l (omega arith) ∙ sym (values_at v d l))
+  made d {f} {ys} {n} a h = values_is d h.long (λ i l. each_made d f ys 0 n i i a h.each l (omega arith))

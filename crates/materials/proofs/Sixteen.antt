@@ -1,13 +1,12 @@
 -- Sixteen numbers of a list, and that they are all that a product reads of it. Assumes nothing.
-use mathlib.Core.Path.{◌≡◌, sym, ◌∙◌}
+use mathlib.Core.Path.{◌≡◌, refl, sym, ◌∙◌}
 use mathlib.Core.List.{List}
 use Prim.Native.Nat.{ℕ, ◌+◌, ◌*◌, ◌<◌}
 use native.Mathlib.Omega.{arith}
 use lib.ListN.{length, get_or}
-use lib.Seq.{ext_get_or}
 use lib.Ieee.{Float, nan}
 use Rattle.definition.specs.Rows.{four_terms, product_of}
-use Rattle.definition.proofs.Lists.{each_same, values_length, values_at}
+use Rattle.definition.proofs.Lists.{each_same, values_at, values_is}
 use Rattle.materials.specs.Products.{entry_of, times_of}
 use Rattle.materials.proofs.Products.{product_is_times}
 use Rattle.materials.specs.Sixteen.{sixteen}
@@ -19,9 +18,7 @@ sixteen_at l h = values_at (λ i. get_or l i nan) nan h
 -- a list of sixteen numbers is kept as it is
 pub sixteen_whole : {l : List Float} → length l ≡ 16 → sixteen l ≡ l
 unfolding sixteen
-sixteen_whole {l} h =
-    let size : length (sixteen l) ≡ 16 = values_length (λ i. get_or l i nan) 16 in
-    ext_get_or nan (sixteen l) l (size ∙ sym h) (λ i m. sixteen_at l (rw size at m))
+sixteen_whole h = sym (values_is nan h (λ i l. refl))
 
 -- a product reads sixteen numbers of its first matrix and no more
 four_terms_of_sixteen : (a : List Float) {i : ℕ} (b0 b1 b2 b3 : Float) → i < 4 → four_terms (sixteen a) i b0 b1 b2 b3 ≡ four_terms a i b0 b1 b2 b3

@@ -2,13 +2,12 @@
 use mathlib.Core.Path.{◌≡◌}
 use mathlib.Core.List.{List, [], ◌∷◌, ◌++◌, append_assoc, append-nil}
 use Prim.Native.Nat.{ℕ, ◌+◌, ◌*◌, ◌≤◌, ◌<◌}
-use native.Mathlib.Nat.{add_assoc}
 use native.Mathlib.Omega.{arith}
 use lib.ListN.{length, set, take, take-append-drop, length-append}
 use lib.Seq.{length-take-le, drop-length, drop-append-add, drop-drop}
 use Rattle.definition.specs.Lists.{each, over}
 use Rattle.definition.specs.Query.{values}
-use Rattle.definition.proofs.Lists.{each_more, each_length, values_length, pairs_length, over_take, over_next}
+use Rattle.definition.proofs.Lists.{each_more, each_length, values_length, pairs_length, over_take, over_next, over_two}
 use Rattle.materials.specs.Products.{over_from}
 
 -- nothing written
@@ -16,33 +15,21 @@ pub over_from_none : {A : Type 0} (at : ℕ) (old : List A) → at ≤ length ol
 unfolding over_from over
 over_from_none at old h = rw (append-nil, length-take-le at old h) (take-append-drop at old)
 
--- one entry more is a store at the next place
-pub over_from_next : {A : Type 0} (at : ℕ) (new old : List A) (x : A) → at + length new < length old → over_from at (new ++ x ∷ []) old ≡ set (over_from at new old) (at + length new) x
-unfolding over_from
-over_from_next at new old x h =
-    let size : length (take at old ++ new) ≡ at + length new = rw (length-append, length-take-le at old (omega arith)) in
-    rw (← append_assoc (take at old) new (x ∷ []), over_next (take at old ++ new) old x (rw size h), size)
-
+-- one value more is a store at the next place, and one pair more is two stores
 pub over_from_value : {A : Type 0} (v : ℕ → A) (at n : ℕ) (old : List A) → at + n < length old → over_from at (values v (n + 1)) old ≡ set (over_from at (values v n) old) (at + n) (v n)
+unfolding over_from
 over_from_value v at n old h =
-    let size : length (values v n) ≡ n = values_length v n in
-    rw (each_more (λ i. v i ∷ []) n, over_from_next at (values v n) old (v n) (rw size h), size)
+    let before = take at old ++ values v n in
+    let size : length before ≡ at + n = rw (length-append, length-take-le at old (omega arith), values_length v n) in
+    rw (each_more, ← append_assoc, over_next before old (v n) (rw size h), size)
 
 pub over_from_pair : {A : Type 0} (x y : ℕ → A) (at k : ℕ) (old : List A) → at + 2 * k + 1 < length old →
     over_from at (each (λ i. x i ∷ y i ∷ []) (k + 1)) old ≡ set (set (over_from at (each (λ i. x i ∷ y i ∷ []) k) old) (at + 2 * k) (x k)) (at + 2 * k + 1) (y k)
+unfolding over_from
 over_from_pair x y at k old h =
-    let new = each (λ i. x i ∷ y i ∷ []) k in
-    let size : length new ≡ 2 * k = pairs_length x y k in
-    let more : length (new ++ x k ∷ []) ≡ 2 * k + 1 = rw (length-append, size) in
-    rw (
-      each_more,
-      ← append_assoc new (x k ∷ []) (y k ∷ []),
-      over_from_next at (new ++ x k ∷ []) old (y k) (rw more (omega arith)),
-      more,
-      over_from_next at new old (x k) (rw size (omega arith)),
-      size,
-      add_assoc,
-    )
+    let before = take at old ++ each (λ i. x i ∷ y i ∷ []) k in
+    let size : length before ≡ at + 2 * k = rw (length-append, length-take-le at old (omega arith), pairs_length x y k) in
+    rw (each_more, ← append_assoc, over_two before old (x k) (y k) (rw size h), size)
 
 over_over : {A : Type 0} (new more old : List A) → over (new ++ more) (over new old) ≡ over (new ++ more) old
 unfolding over

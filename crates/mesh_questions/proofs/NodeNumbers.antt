@@ -2,11 +2,9 @@
 use mathlib.Core.Path.{◌≡◌, sym}
 use mathlib.Core.Bool.{true}
 use mathlib.Core.List.{List, [], ◌∷◌}
-use mathlib.Core.Logic.{inl, inr}
 use Prim.Native.Nat.{ℕ, ◌+◌, ◌≤◌, ◌<◌}
-use native.Mathlib.Nat.{le_of_suc-le-suc, eq-or-lt_of_le}
-use native.Mathlib.Numerals.{add-one}
 use native.Mathlib.Omega.{arith}
+use borrow.Author.Count.{below_more}
 use borrow.Author.Tests.{lt-ltb, le-ltb}
 use lib.Dec.{ltb}
 use lib.ListN.{length}
@@ -31,13 +29,7 @@ unfolding passes
 passed m h = every_of (λ e l. rw (every_of (λ j k. lt-ltb _ _ (h.known e l j k))))
 
 pub one_more : (m : Mesh) {e n : ℕ} → AllKnown m e → e < element_count m → length (element_nodes m e) ≤ n → ((j : ℕ) → j < n → node_of m e j < node_count m) → AllKnown m (e + 1)
-one_more m {e} h l k b = record {
-  known = λ i q.
-      elim (eq-or-lt_of_le (le_of_suc-le-suc (rw add-one at q))) [
-        | inl same ↦ rw same (λ j p. b j (omega (arith, row_length m e l)))
-        | inr before ↦ h.known i before
-      ];
-}
+one_more m {e} h l k b = record { known = below_more (λ i. (j : ℕ) → j < nodes_of m.family → node_of m i j < node_count m) e h.known (λ j p. b j (omega (arith, row_length m e l))) }
 
 pub all_known : (m : Mesh) {n : ℕ} → n ≡ element_count m → AllKnown m n → accepted tt ≡ asked (node_numbers m) (tt {0})
 unfolding node_numbers

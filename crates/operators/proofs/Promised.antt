@@ -9,10 +9,10 @@ use lib.Dec.{leb}
 use lib.ListN.{length}
 use lib.Ieee.{Float}
 use Rattle.std.specs.Prelude.{Ok, Err}
+use Rattle.std.proofs.lemmas.Bool.{and_parts}
 use Rattle.definition.specs.Questions.{Question, Outcome, accepted, refused, asked, onward, number_of, whole, family_known, nodes_whole, elements_whole, references_whole, room}
 use Rattle.definition.specs.Operators.{Operator, InterpolationCall, TripletLists, triplet_room, mesh_questions, operated, OperatorPromise}
 use Rattle.definition.specs.declared.Refusal.{Refusal}
-use Rattle.definition.proofs.Lists.{and_parts}
 use Rattle.definition.proofs.Passing.{passes, asked_accepted, asked_value}
 use Rattle.triplets.specs.Strip.{Strip, written}
 use Rattle.triplets.proofs.Strips.{Room, written_over}

@@ -8,14 +8,14 @@ use Rattle.definition.specs.Mesh.{pair_count, repeated_count}
 use Rattle.definition.specs.Questions.{Outcome, accepted, refused, asked, onward, number_of}
 use Rattle.definition.specs.Query.{QueryCall, QueryLists, query_room, query_questions, inside_count, queried, QueryPromise}
 use Rattle.definition.specs.declared.Refusal.{Refusal}
-use Rattle.definition.proofs.Passing.{passes, passes_append, asked_accepted, asked_value}
+use Rattle.definition.proofs.Passing.{passes, passes_append, asked_accepted, asked_with}
 use Rattle.query.specs.Filled.{is_inside, filled}
 use Rattle.query.proofs.Filling.{filled_answers}
 
 -- what a query comes to is what its questions come to, with its numbers
 queried_is : (q : QueryCall) (lent : QueryLists) {v : Outcome (Unit {0})} → v ≡ asked (query_questions q lent) tt → queried q lent ≡ onward v (accepted (record { points = pair_count q.points; repeated = repeated_count q.mesh; inside = inside_count q }))
 unfolding queried
-queried_is q lent e = rw (asked_value, ← e)
+queried_is q lent e = asked_with (query_questions q lent) _ e
 
 -- where all questions hold, each list has room
 room_asked : (q : QueryCall) (lent : QueryLists) → asked (query_questions q lent) (tt {0}) ≡ accepted tt → query_room lent (pair_count q.points) ≡ true

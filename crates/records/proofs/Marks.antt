@@ -1,23 +1,20 @@
 -- What a record of each mark has: its bytes, its family and the room that it needs. Assumes nothing.
-use Rattle.std.proofs.Common.{◌≡◌, refl, ap, ◌∙◌, Bool, true, false, cond, List, [], ◌∷◌, ◌++◌, ℕ, ◌+◌, ◌*◌, ◌≤◌, leb, eqb, length, get_or, arith, length-append}
+use Rattle.std.proofs.Common.{◌≡◌, refl, ap, ◌∙◌, true, List, [], ◌∷◌, ◌++◌, ℕ, ◌+◌, ◌*◌, ◌≤◌, leb, length, get_or, arith, length-append}
 use Rattle.std.proofs.Math.Bool.{true-and, and-true}
 use native.Mathlib.Nat.{one-mul}
 use borrow.Author.Tests.{leb-true, le-leb}
+use Rattle.std.proofs.lemmas.Bool.{and_parts}
 use Rattle.definition.specs.Elements.{nodes_of}
 use Rattle.definition.specs.declared.Mark.{Mark}
 use Rattle.definition.specs.declared.Mark.TheVariants.{Head, Node, Element, Point, Unknown}
 use Rattle.definition.specs.Job.{is_head, Job, empty_job, record_bytes, little, pair_bits, row_of, taken, within_limits}
-use Rattle.definition.proofs.Lists.{each_more, each_length, and_parts}
+use Rattle.definition.proofs.Families.{nodes_are}
+use Rattle.definition.proofs.Lists.{each_more, each_length}
 use Rattle.records.specs.Reading.{room_for}
 
 -- the nodes of an element, and the bytes of a record
 pub nodes_few : (family : ℕ) → nodes_of family ≤ 9
-unfolding nodes_of
-nodes_few family = by (eqb family 9)
-  where
-    by : (b : Bool) → cond b 9 4 ≤ 9
-    by true = omega arith
-    by false = omega arith
+nodes_few family = grind (arith, nodes_are family)
 
 pub record_some : (m : Mark) (family : ℕ) → 2 ≤ record_bytes m family
 unfolding record_bytes

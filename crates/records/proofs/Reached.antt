@@ -2,12 +2,12 @@
 use Rattle.std.proofs.Common.{◌≡◌, refl, sym, ◌∙◌, Bool, true, false, List, [], ◌∷◌, ℕ, zero, suc, ◌+◌, ◌-◌, ◌≤◌, ◌<◌, ltb, eqb, length, add-one, arith}
 use Rattle.std.specs.Bool.{beq}
 use borrow.Author.Tests.{leb-true, eqb-true, ltb-true}
-use Rattle.definition.specs.Questions.{Question, accepted, refused, ask, asked, is_family}
+use Rattle.std.proofs.lemmas.Bool.{and_parts}
+use Rattle.definition.specs.Questions.{accepted, refused, ask, asked, is_family}
 use Rattle.definition.specs.declared.Mark.{Mark}
 use Rattle.definition.specs.declared.Mark.TheVariants.{Head, Node, Element, Point, Unknown}
 use Rattle.definition.specs.Job.{is_known, is_head, Job, empty_job, mark_at, record_bytes, record_questions, taken, family_read, within_limits, read_from, read_job}
-use Rattle.definition.proofs.Lists.{and_parts}
-use Rattle.definition.proofs.Passing.{passes, asked_accepted, asked_value}
+use Rattle.definition.proofs.Passing.{passes, asked_accepted, asked_with, held}
 use Rattle.records.proofs.Marks.{record_some, limits_bound, start_within, room_is}
 use Rattle.records.proofs.Turns.{read_passed, read_refused, read_ended}
 use Rattle.records.specs.Reading.{room_for, Bounded}
@@ -27,11 +27,6 @@ ready {bytes} {at} {index} {j} h =
     let (whole, more) = and_parts _ _ rest in
     let (named, last) = and_parts _ _ more in
     record { placed = placed; whole = leb-true _ _ whole; named = named; fits = (and_parts _ _ last).0 }
-
--- a question that passes holds
-pub held : (number place : ℕ) {b : Bool} → accepted tt ≡ asked (ask number place b ∷ []) (tt {0}) → b ≡ true
-unfolding passes
-held number place {b} h = (and_parts b _ (asked_accepted (ask number place b ∷ []) (sym h)).0).0
 
 -- the QF is the first record
 pub head_first : {first : Bool} (index : ℕ) → beq first (eqb index 0) ≡ true → first ≡ true → index ≡ 0
@@ -78,13 +73,6 @@ reached_start bytes =
       same = let e : length bytes - 0 ≡ length bytes = omega arith in rw e;
     }
 
--- questions hold, or do not, whatever value they are asked for
-passed_with : {A : Type 0} (qs : List Question) (v : A) → accepted tt ≡ asked qs (tt {0}) → asked qs v ≡ accepted v
-passed_with qs v h = asked_value qs v ∙ rw (← h)
-
-refused_with : {A : Type 0} (qs : List Question) (v : A) {number place : ℕ} → refused number place ≡ asked qs (tt {0}) → asked qs v ≡ refused number place
-refused_with qs v h = asked_value qs v ∙ rw (← h)
-
 module _ {bytes : List ℕ} {at index : ℕ} {j : Job} (r : Reached bytes at index j) where
   fuel : at < length bytes → length bytes - index ≡ suc (length bytes - suc index)
   fuel l = omega (arith, r.slow)
@@ -93,7 +81,7 @@ module _ {bytes : List ℕ} {at index : ℕ} {j : Job} (r : Reached bytes at ind
   reached_next l h few =
       let m = mark_at bytes at in
       let shows = ready h in
-      let accepts : asked (record_questions bytes at index j) (taken m bytes at j) ≡ accepted (taken m bytes at j) = passed_with (record_questions bytes at index j) (taken m bytes at j) h in
+      let accepts : asked (record_questions bytes at index j) (taken m bytes at j) ≡ accepted (taken m bytes at j) = asked_with (record_questions bytes at index j) (taken m bytes at j) h in
       record {
         inside = shows.whole;
         slow = omega (arith, record_some m j.family, r.slow);
@@ -106,7 +94,7 @@ module _ {bytes : List ℕ} {at index : ℕ} {j : Job} (r : Reached bytes at ind
 
   pub reached_refused : {number place : ℕ} → at < length bytes → refused number place ≡ asked (record_questions bytes at index j) (tt {0}) → refused number place ≡ read_job bytes
   reached_refused l h =
-      sym (read_refused bytes at index j (length bytes - suc index) l (refused_with (record_questions bytes at index j) (taken (mark_at bytes at) bytes at j) h)) ∙ rw (← fuel l) r.same
+      sym (read_refused bytes at index j (length bytes - suc index) l (asked_with (record_questions bytes at index j) (taken (mark_at bytes at) bytes at j) h)) ∙ rw (← fuel l) r.same
 
   -- there is room for a record that passes
   pub reached_room : accepted tt ≡ asked (record_questions bytes at index j) (tt {0}) → room_for (mark_at bytes at) j ≡ true
@@ -117,10 +105,10 @@ module _ {bytes : List ℕ} {at index : ℕ} {j : Job} (r : Reached bytes at ind
   ended h = sym (read_ended bytes at index j (length bytes - index) h) ∙ r.same
 
   pub reached_end : length bytes ≤ at → accepted tt ≡ asked (ask 19 0 (ltb 0 index) ∷ []) (tt {0}) → accepted j ≡ read_job bytes
-  reached_end l h = sym (passed_with (ask 19 0 (ltb 0 index) ∷ []) j h) ∙ ended l
+  reached_end l h = sym (asked_with (ask 19 0 (ltb 0 index) ∷ []) j h) ∙ ended l
 
   pub reached_none : {number place : ℕ} → length bytes ≤ at → refused number place ≡ asked (ask 19 0 (ltb 0 index) ∷ []) (tt {0}) → refused number place ≡ read_job bytes
-  reached_none l h = sym (refused_with (ask 19 0 (ltb 0 index) ∷ []) j h) ∙ ended l
+  reached_none l h = sym (asked_with (ask 19 0 (ltb 0 index) ∷ []) j h) ∙ ended l
 
   pub reached_bounds : accepted tt ≡ asked (ask 19 0 (ltb 0 index) ∷ []) (tt {0}) → Bounded j
   reached_bounds h =

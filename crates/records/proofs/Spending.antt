@@ -1,7 +1,7 @@
 -- What the records of a job take of its bytes: 5 for the QF, 18 a node or a point, which are two values, and 2 + 4 F an element, which is F values. Assumes nothing.
 use mathlib.Core.Path.{◌≡◌, refl}
-use mathlib.Core.Logic.{◌⊎◌, inl, inr}
-use mathlib.Core.Bool.{Bool, true, false, cond, beq}
+use mathlib.Core.Logic.{inl, inr}
+use mathlib.Core.Bool.{true, beq}
 use mathlib.Core.List.{List}
 use Prim.Native.Nat.{ℕ, suc, ◌+◌, ◌*◌, ◌≤◌}
 use native.Mathlib.Nat.{mul-suc}
@@ -9,12 +9,13 @@ use native.Mathlib.Omega.{arith}
 use borrow.Author.Tests.{leb-true}
 use lib.Dec.{leb, eqb}
 use lib.ListN.{length}
+use Rattle.std.proofs.lemmas.Bool.{and_parts}
 use Rattle.definition.specs.Elements.{nodes_of}
 use Rattle.definition.specs.Questions.{accepted, asked}
 use Rattle.definition.specs.declared.Mark.{Mark}
 use Rattle.definition.specs.declared.Mark.TheVariants.{Head, Node, Element, Point, Unknown}
 use Rattle.definition.specs.Job.{is_known, is_head, Job, empty_job, mark_at, record_bytes, taken, family_read, within_limits, record_questions}
-use Rattle.definition.proofs.Lists.{and_parts}
+use Rattle.definition.proofs.Families.{nodes_are}
 use Rattle.definition.proofs.Passing.{passes, asked_accepted}
 use Rattle.records.proofs.Marks.{pair_length, row_length}
 use Rattle.records.proofs.Reached.{head_first}
@@ -25,14 +26,6 @@ pub record Spent (at index : ℕ) (j : Job) : Type 0 where
   pub count : ℕ
   pub rows : length j.elements ≡ nodes_of j.family * count
   pub bytes : at ≤ 5 + 9 * length j.nodes + (2 + 4 * nodes_of j.family) * count + 9 * length j.points
-
-nodes_are : (family : ℕ) → (nodes_of family ≡ 9) ⊎ (nodes_of family ≡ 4)
-unfolding nodes_of
-nodes_are family = by (eqb family 9)
-  where
-    by : (b : Bool) → (◌≡◌ {A = ℕ} (cond b 9 4) 9) ⊎ (◌≡◌ {A = ℕ} (cond b 9 4) 4)
-    by true = inl refl
-    by false = inr refl
 
 -- within the limits that is at most 5 + 512 * 18 + 256 * 38 + 256 * 18
 pub spent_most : {at index : ℕ} {j : Job} → Spent at index j → within_limits j ≡ true → at ≤ 23557

@@ -1,27 +1,23 @@
--- Triplets put one after the other are one list of triplets, and triplets that have room from place 0 on are written over the lists: by induction on the triplets. Assumes nothing.
-use mathlib.Core.Path.{◌≡◌, refl}
+-- Triplets put one after the other are one list of triplets, and triplets that have room from place 0 on are written over the lists: by the laws of a fold. Assumes nothing.
+use mathlib.Core.Path.{◌≡◌}
 use mathlib.Core.Bool.{true}
-use mathlib.Core.List.{List, [], ◌∷◌, ◌++◌, map, map-append, append-nil}
+use mathlib.Core.List.{List, [], ◌∷◌, ◌++◌, map, map-append}
 use Prim.Native.Nat.{ℕ, ◌+◌, ◌≤◌, ◌<◌}
 use native.Mathlib.Omega.{arith}
 use lib.Dec.{ltb}
 use lib.ListN.{length, set, length-append, length-map}
-use lib.Seq.{append_snoc}
 use borrow.Author.Tests.{lt-ltb}
+use Rattle.std.proofs.lemmas.List.Sums.{fold-append}
 use Rattle.definition.specs.Lists.{each, over}
 use Rattle.definition.specs.Operators.{TripletLists, triplets_over}
 use Rattle.definition.specs.Rows.{Triplet}
-use Rattle.definition.proofs.Lists.{each_more, over_length, over_next}
+use Rattle.definition.proofs.Lists.{each_more, fold_on, over_length, over_next}
 use Rattle.triplets.specs.Strip.{Strip, stored, written}
-
-written_append : (s : Strip) (a b : List Triplet) → written (written s a) b ≡ written s (a ++ b)
-unfolding written
-written_append s [] b = refl
-written_append s (t ∷ a) b = written_append (stored s t) a b
 
 -- one part more of triplets in parts
 pub written_each : (s : Strip) (g : ℕ → List Triplet) (n : ℕ) {q r : Strip} → q ≡ written s (each g n) → r ≡ written q (g n) → r ≡ written s (each g (n + 1))
-written_each s g n e h = rw each_more (cc (written_append s (each g n) (g n)))
+unfolding written
+written_each s g n e h = rw each_more (cc (fold-append stored s (each g n) (g n)))
 
 -- ---- triplets that have room
 
@@ -47,13 +43,6 @@ module _ (l : TripletLists) where
   stored_after done t h =
       rw (over_place (λ t. t.row) done l.rows (omega (arith, h.0)), over_place (λ t. t.column) done l.columns (omega (arith, h.1)), over_place (λ t. t.value) done l.values (omega (arith, h.2)), over_more (λ t. t.row) done t l.rows (omega (arith, h.0)), over_more (λ t. t.column) done t l.columns (omega (arith, h.1)), over_more (λ t. t.value) done t l.values (omega (arith, h.2)), length-append)
 
-  written_after : (done ts : List Triplet) → Room l (length done + length ts) → written (after l done) ts ≡ after l (done ++ ts)
-  unfolding written
-  written_after done [] h = rw append-nil
-  written_after done (t ∷ ts) h =
-      rw (stored_after done t (omega (arith, h.0), omega (arith, h.1), omega (arith, h.2)), ← append_snoc done t ts)
-      (written_after (done ++ t ∷ []) ts (rw length-append (omega (arith, h.0)), rw length-append (omega (arith, h.1)), rw length-append (omega (arith, h.2))))
-
   pub written_over : (ts : List Triplet) → Room l (length ts) → written (record { lists = l; at = 0 }) ts ≡ after l ts
-  unfolding over triplets_over
-  written_over ts h = written_after [] ts (omega (arith, h.0), omega (arith, h.1), omega (arith, h.2))
+  unfolding written over triplets_over
+  written_over ts h = fold_on stored (after l) {n = length ts} (λ done t m. stored_after done t (omega (arith, h.0), omega (arith, h.1), omega (arith, h.2))) [] ts (omega arith)

@@ -1,5 +1,5 @@
 -- Triplets put into three lent lists from a place on. What has no place in all three is left out, so there is an answer for every place and every length.
-use Rattle.std.specs.Prelude.{cond, ◌&&◌, List, [], ◌∷◌, ℕ, ◌+◌, ltb, length, set, Float}
+use Rattle.std.specs.Prelude.{cond, ◌&&◌, List, ℕ, ◌+◌, ltb, length, set, fold, Float}
 use Rattle.definition.specs.Operators.{TripletLists}
 use Rattle.definition.specs.Rows.{Triplet}
 
@@ -21,5 +21,4 @@ stored s t =
 
 -- the strip with triplets more, one after the other
 unfoldable pub written : Strip → List Triplet → Strip
-written s [] = s
-written s (t ∷ ts) = written (stored s t) ts
+written s ts = fold stored s ts

@@ -9,6 +9,7 @@ use borrow.Author.Tests.{ltb-true, eqb-true}
 use lib.Dec.{ltb, eqb}
 use lib.ListN.{replicate, take}
 use lib.Ieee.{Float, binary64, round, lt, is_nan, of_bits}
+use Rattle.std.proofs.lemmas.Bool.{and_parts}
 use Rattle.definition.specs.Lists.{every, each, over}
 use Rattle.definition.specs.Binary64.{plus0, one, two, minus_one, half, quarter}
 use Rattle.definition.specs.Mesh.{Mesh, node_count, element_count, pair_count, pair_at}
@@ -24,7 +25,7 @@ use Rattle.definition.specs.declared.ElementProjection.{ElementProjection}
 use Rattle.definition.specs.declared.QueryCounts.{QueryCounts}
 use Rattle.definition.specs.declared.OperatorCounts.{OperatorCounts}
 use Rattle.definition.proofs.Computing.{querying, operating}
-use Rattle.definition.proofs.Lists.{and_parts, every_at}
+use Rattle.definition.proofs.Lists.{every_at}
 use Rattle.definition.proofs.Renumbering.Computed.{demand3_computed}
 
 -- ---- hypotheses by tests that compute

@@ -10,6 +10,7 @@ use borrow.Author.Tests.{lt-ltb, eqb-true}
 use lib.Dec.{leb, ltb, eqb}
 use lib.ListN.{length, get_or}
 use lib.Ieee.{Float, nan, le}
+use Rattle.std.proofs.lemmas.Bool.{and_parts}
 use Rattle.definition.specs.Lists.{every}
 use Rattle.definition.specs.Binary64.{plus0, epsilon}
 use Rattle.definition.specs.Elements.{nodes_of, shape_of}
@@ -23,7 +24,6 @@ use Rattle.definition.specs.declared.Reference.{Reference}
 use Rattle.definition.specs.declared.GatheredElement.{GatheredElement}
 use Rattle.definition.specs.declared.Structural2dFormulation.{Structural2dFormulation}
 use Rattle.definition.specs.declared.Structural2dFormulation.TheVariants.{Axisymmetric, PlaneStrain}
-use Rattle.definition.proofs.Lists.{and_parts}
 use Rattle.definition.proofs.Passing.{passes, passes_append, passes_each}
 use Rattle.definition.proofs.Renumbering.Moves.{every_moved, moved_one, moved_pair, attached_length}
 use Rattle.definition.proofs.Renumbering.Mesh.{elements_count, numbers_again}

@@ -1,6 +1,6 @@
 -- The renumbered lists, computed, are renumbered lists: so demand 3 holds of the lists that any three permutations give. Assumes nothing.
 use mathlib.Core.Path.{◌≡◌, refl, sym, ap, ◌∙◌}
-use mathlib.Core.Bool.{Bool, true, false, cond}
+use mathlib.Core.Bool.{true}
 use mathlib.Core.List.{List}
 use Prim.Native.Nat.{ℕ, ◌+◌, ◌*◌, ◌/◌, ◌%◌, ◌<◌}
 use native.Mathlib.Nat.{div-add-mod, add-zero}
@@ -9,29 +9,22 @@ use borrow.Author.Tests.{eqb-true, eq-eqb, ne_eqb}
 use lib.Dec.{leb, eqb}
 use lib.ListN.{length}
 use lib.Ieee.{nan}
+use Rattle.std.proofs.lemmas.Bool.{and_parts}
 use Rattle.definition.specs.Elements.{nodes_of}
 use Rattle.definition.specs.Mesh.{element_count}
 use Rattle.definition.specs.Questions.{whole}
 use Rattle.definition.specs.Query.{QueryCall, query_questions, queried}
 use Rattle.definition.specs.Renumbering.{Permutation, Renumbering, Renumbered, TwoQueries, Attached, renumbered_query, attached_list, ComputedQueries, Demand3Computed}
-use Rattle.definition.proofs.Lists.{and_parts}
 use Rattle.definition.proofs.Passing.{asked_accepted}
 use Rattle.definition.proofs.Renumbering.Moves.{moved_computed}
 use Rattle.definition.proofs.Renumbering.Mesh.{Passed, passed_says}
 use Rattle.definition.proofs.Renumbering.Query.{query_kept}
+use Rattle.definition.proofs.Families.{nodes_are}
 use Rattle.definition.proofs.Renumbering.Calls.{interpolation_kept, strain_kept, stress_kept}
 
 -- whole records: the length is the size times the count
 whole_length : (k len : ℕ) → whole k len ≡ true → len ≡ k * (len / k)
 whole_length k len h = sym (div-add-mod len k) ∙ ap (λ (x : ℕ). k * (len / k) + x) (eqb-true (len % k) 0 (and_parts (eqb (len % k) 0) (leb (len / k) 1000000) h).0) ∙ add-zero (k * (len / k))
-
-nodes_positive : (family : ℕ) → 0 < nodes_of family
-unfolding nodes_of
-nodes_positive family = by (eqb family 9)
-  where
-    by : (b : Bool) → 0 < cond b 9 4
-    by true = omega arith
-    by false = omega arith
 
 computed : (q : QueryCall) (r : Renumbering q) → Passed q → Renumbered q r (renumbered_query q r)
 computed q r P =
@@ -39,7 +32,7 @@ computed q r P =
       family = refl;
       iterations = refl;
       nodes = moved_computed (omega arith) r.nodes (whole_length 2 (length q.mesh.nodes) P.nodes_whole_lem);
-      elements = moved_computed (nodes_positive q.mesh.family) r.elements (whole_length (nodes_of q.mesh.family) (length q.mesh.elements) P.elements_whole_lem);
+      elements = moved_computed (grind (arith, nodes_are q.mesh.family)) r.elements (whole_length (nodes_of q.mesh.family) (length q.mesh.elements) P.elements_whole_lem);
       points = moved_computed (omega arith) r.points (whole_length 2 (length q.points) P.points_whole_lem);
     }
 

@@ -1,21 +1,20 @@
 -- What every distance is: a value of binary64 whose sign is clear. A square's sign is clear, and adding and rounding keep it so, so a squared distance is one; then so is its root, and what a search comes to.
--- The root keeps which distance is least, and is a NaN only where the distance is. Assumes nothing.
-use mathlib.Core.Path.{◌≡◌, sym, ◌∙◌, subst}
+-- The root is a NaN only where the distance is. Assumes nothing.
+use mathlib.Core.Path.{◌≡◌, sym, ◌∙◌}
 use mathlib.Core.Bool.{true, false, cond}
 use mathlib.Core.List.{List}
 use Prim.Native.Nat.{ℕ, zero, suc, ◌+◌, ◌*◌, ◌^◌}
-use lib.Dec.{T, ltb, not_T}
+use lib.Dec.{T, ltb}
 use lib.ListN.{get_or}
 use lib.Ieee.{Float, nan, inf, fin, binary64, up, down, odd, units, round, add, mul, lt, is_nan, fits}
 use lib.Ieee.Fits.{round_is, add-fits}
-use lib.Ieee.Bits.{is_false}
 use Rattle.definition.specs.Binary64.{◌⊕◌, ◌⊖◌, ◌⊗◌, squared_distance}
 use Rattle.definition.specs.Root.{root_of}
 use Rattle.definition.specs.declared.Step.{Step}
 use Rattle.definition.specs.Search.{walked, placed, nearer, best_of, element_best, closest_reference_point, face_best, closest_face_point}
 use Rattle.definition.specs.declared.Point.{Point}
 use Rattle.definition.specs.declared.GatheredElement.{GatheredElement}
-use Rattle.definition.proofs.Root.{clear, root_fits, root_clear, root_nan, root_not_lt}
+use Rattle.definition.proofs.Root.{clear, root_fits, root_clear, root_nan}
 
 pub record IsDistance (x : Float) : Type 0 where
   pub fitting : T (fits binary64 x)
@@ -75,9 +74,6 @@ root_is_distance {x} p = record { fitting = root_fits x p.fitting; sign_clear = 
 -- a root that is no NaN comes from a number
 pub root_number : {x : Float} → IsDistance x → is_nan (root_of x) ≡ false → IsNumber x
 root_number {x} p h = record { is_distance = p; not_nan = sym (root_nan x p.fitting p.sign_clear) ∙ h }
-
-pub root_keeps_least : (x y : Float) → IsDistance x → IsDistance y → lt y x ≡ false → lt (root_of y) (root_of x) ≡ false
-root_keeps_least x y p q h = let t = lt (root_of y) (root_of x) in is_false t (not_T t (root_not_lt y x q.fitting p.fitting (subst T h)))
 
 -- ---- what a search comes to
 module _ {A : Type 0} (point_of : A → Point) (step : A → Step A) (target : Point) (limit : ℕ) (start : A) (seeds : List A) where

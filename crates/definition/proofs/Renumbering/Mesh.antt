@@ -7,6 +7,7 @@ use Prim.Native.Nat.{ℕ, ◌+◌, ◌*◌, ◌/◌, ◌<◌}
 use borrow.Author.Tests.{ltb-true, lt-ltb}
 use lib.Dec.{ltb, leb}
 use lib.ListN.{length, get_or, replicate}
+use Rattle.std.proofs.lemmas.Bool.{and_parts}
 use Rattle.definition.specs.Lists.{each, over, every}
 use Rattle.definition.specs.Binary64.{plus0}
 use Rattle.definition.specs.Elements.{nodes_of}
@@ -15,7 +16,7 @@ use Rattle.definition.specs.Mesh.{Mesh, node_count, element_count, pair_count, p
 use Rattle.definition.specs.Questions.{ask, is_family, whole, family_known, nodes_whole, elements_whole, iterations_few, points_whole, room, node_numbers, some_node, some_element}
 use Rattle.definition.specs.Query.{QueryCall, QueryLists, query_room, query_questions}
 use Rattle.definition.specs.Renumbering.{Renumbering, Renumbered, SameLengths}
-use Rattle.definition.proofs.Lists.{each_same, and_parts, every_at, every_of}
+use Rattle.definition.proofs.Lists.{each_same, every_at, every_of}
 use Rattle.definition.proofs.Passing.{passes, passes_append, passes_each}
 use Rattle.definition.proofs.Renumbering.Moves.{moved_pair, moved_point, node_at}
 

@@ -2,13 +2,11 @@
 -- Assumes nothing.
 use mathlib.Core.Path.{◌≡◌, sym, ap, ◌∙◌, subst}
 use mathlib.Core.Bool.{true}
-use mathlib.Core.List.{List}
 use Prim.Native.Nat.{ℕ, ◌+◌, ◌*◌, ◌/◌, ◌%◌, ◌<◌}
 use native.Mathlib.Nat.{mod-lt}
 use native.Mathlib.Omega.{arith}
 use lib.ListN.{get_or}
 use lib.Ieee.{nan}
-use Rattle.definition.specs.Lists.{over}
 use Rattle.definition.specs.Binary64.{squared_distance}
 use Rattle.definition.specs.Root.{root_of}
 use Rattle.definition.specs.Mapping.{first, second}
@@ -17,13 +15,14 @@ use Rattle.definition.specs.Mesh.{Mesh, node_count, element_count, pair_count, p
 use Rattle.definition.specs.Choice.{pick, node_square, node_distance, element_distance, face_distance, point_answer}
 use Rattle.definition.specs.Questions.{Outcome, accepted}
 use Rattle.definition.specs.declared.QueryCounts.{QueryCounts}
-use Rattle.definition.specs.Query.{QueryCall, QueryLists, query_questions, inside_count, queried, query_lists, answer_at, answers_over, values}
+use Rattle.definition.specs.Query.{QueryCall, QueryLists, query_questions, inside_count, queried, query_lists, answer_at, answers_over}
 use Rattle.definition.specs.Renumbering.{within, Renumbering, Renumbered, NoNan, TwoQueries, Named, Chosen, SameDistances, QueryKept}
 use Rattle.definition.specs.declared.Point.{Point}
-use Rattle.definition.proofs.Lists.{values_at, values_length, over_at}
+use Rattle.definition.proofs.Lists.{value_read}
 use Rattle.definition.proofs.Passing.{passes, asked_passed, asked_accepted}
+use Rattle.definition.proofs.Root.{root_not_smaller}
 use Rattle.definition.proofs.Renumbering.Moves.{moved_pair, within_permutes}
-use Rattle.definition.proofs.Renumbering.Distance.{IsNumber, square_is_distance, root_number, root_keeps_least, element_distance_is, face_distance_is}
+use Rattle.definition.proofs.Renumbering.Distance.{IsNumber, square_is_distance, root_number, element_distance_is, face_distance_is}
 use Rattle.definition.proofs.Renumbering.FirstMinimum.{Choice, choice}
 use Rattle.definition.proofs.Renumbering.Mesh.{Passed, passed_says, nodes_count, elements_count, points_count, gathered_same, point_same, query_passes}
 
@@ -37,20 +36,17 @@ pub record Read (q : QueryCall) (l : QueryLists) (p : ℕ) : Type 0 where
   pub local_face : get_or l.face_local_faces p 0 ≡ (answer_at q p).face.local_face
   pub face_distance_is : get_or l.face_distances p nan ≡ (answer_at q p).face.distance
 
-value_read : {A : Type 0} (v : ℕ → A) (n p : ℕ) (d : A) (old : List A) → p < n → get_or (over (values v n) old) p d ≡ v p
-value_read v n p d old h = over_at (values v n) old d (rw (values_length v n) h) ∙ values_at v d h
-
 pub read : (q : QueryCall) (n : ℕ) (lent : QueryLists) (p : ℕ) → p < n → Read q (answers_over q n lent) p
 unfolding answers_over
 read q n lent p h =
     record {
-      node = value_read (λ p. (answer_at q p).node.node_index) n p 0 lent.node_indices h;
-      node_distance_is = value_read (λ p. (answer_at q p).node.distance) n p nan lent.node_distances h;
-      element = value_read (λ p. (answer_at q p).element.element_index) n p 0 lent.element_indices h;
-      element_distance_is = value_read (λ p. (answer_at q p).element.distance) n p nan lent.element_distances h;
-      face_element = value_read (λ p. (answer_at q p).face.element_index) n p 0 lent.face_element_indices h;
-      local_face = value_read (λ p. (answer_at q p).face.local_face) n p 0 lent.face_local_faces h;
-      face_distance_is = value_read (λ p. (answer_at q p).face.distance) n p nan lent.face_distances h;
+      node = value_read (λ p. (answer_at q p).node.node_index) lent.node_indices 0 h;
+      node_distance_is = value_read (λ p. (answer_at q p).node.distance) lent.node_distances nan h;
+      element = value_read (λ p. (answer_at q p).element.element_index) lent.element_indices 0 h;
+      element_distance_is = value_read (λ p. (answer_at q p).element.distance) lent.element_distances nan h;
+      face_element = value_read (λ p. (answer_at q p).face.element_index) lent.face_element_indices 0 h;
+      local_face = value_read (λ p. (answer_at q p).face.local_face) lent.face_local_faces 0 h;
+      face_distance_is = value_read (λ p. (answer_at q p).face.distance) lent.face_distances nan h;
     }
 
 -- ---- one point of a query and of the query renumbered
@@ -140,7 +136,7 @@ named q l p v numbers node element face =
     record {
       node = rw v.node node;
       node_distance_is = v.node_distance_is ∙ ap (node_distance m k t) (sym v.node);
-      node_least = λ i h. rw v.node_distance_is (root_keeps_least (node_square m k t (pick (node_square m k t) (node_count m))) (node_square m k t i) (numbers (pick (node_square m k t) (node_count m)) node.inside).is_distance (numbers i h).is_distance (node.least i h));
+      node_least = λ i h. rw v.node_distance_is (root_not_smaller (node_square m k t i) (node_square m k t (pick (node_square m k t) (node_count m))) (numbers i h).is_distance.fitting (numbers (pick (node_square m k t) (node_count m)) node.inside).is_distance.fitting (node.least i h));
       element = rw v.element element;
       element_distance_is = v.element_distance_is ∙ ap (element_distance m k t) (sym v.element);
       local_face = rw v.local_face (mod-lt f (omega arith));

@@ -1,6 +1,6 @@
 -- Triplets: three lists give back those written to them; a point's are those that it made; those of renamed rows and columns are the triplets renamed.
 -- A row's quotient by k is its point, and each law holds of one triplet and so of all. Assumes nothing.
-use mathlib.Core.Path.{◌≡◌, refl, ap, ap₂, ◌∙◌, subst}
+use mathlib.Core.Path.{◌≡◌, refl, sym, ap, ap₂, ◌∙◌}
 use mathlib.Core.Logic.{inl, inr}
 use mathlib.Core.Bool.{true, false, cond}
 use mathlib.Core.List.{List, [], ◌∷◌, ◌++◌, map, append-nil}
@@ -10,32 +10,26 @@ use native.Mathlib.Omega.{arith}
 use borrow.Author.Tests.{eq-eqb, ne_eqb}
 use lib.Dec.{eqb}
 use lib.ListN.{length, get_or, length-map, get_or-map}
-use lib.Seq.{ext_get_or}
 use lib.Ieee.{Float, nan, eq}
 use Rattle.definition.specs.Lists.{each, over}
 use Rattle.definition.specs.Binary64.{plus0}
 use Rattle.definition.specs.Rows.{Triplet, kept, point_triplets}
 use Rattle.definition.specs.Operators.{TripletLists, triplets_over}
 use Rattle.definition.specs.Renumbering.{within, triplets_of, of_point, renamed}
-use Rattle.definition.proofs.Lists.{each_same, map_each, values_length, values_at, over_at}
+use Rattle.definition.proofs.Lists.{each_same, map_each, values_is, over_at}
 use Rattle.definition.proofs.Renumbering.Moves.{part_of, within_at}
 
 -- ---- written to three lists
 
 pub triplets_read : (ts : List Triplet) (lent : TripletLists) → triplets_of (triplets_over ts lent) (length ts) ≡ ts
 unfolding triplets_over
-triplets_read ts lent = ext_get_or past _ ts (values_length _ (length ts)) (λ i h. at (subst (λ n. i < n) (values_length _ (length ts)) h))
+triplets_read ts lent = sym (values_is past refl (λ i l. λ s. record { row = field_at (λ t. t.row) lent.rows l s; column = field_at (λ t. t.column) lent.columns l s; value = field_at (λ t. t.value) lent.values l s }))
   where
     past : Triplet
     past = record { row = 0; column = 0; value = nan }
 
-    field_at : {A : Type 0} (f : Triplet → A) (old : List A) {i : ℕ} → i < length ts → get_or (over (map f ts) old) i (f past) ≡ f (get_or ts i past)
-    field_at f old {i} l = over_at (map f ts) old (f past) (rw length-map l) ∙ get_or-map f ts i past
-
-    at : {i : ℕ} → i < length ts → get_or (triplets_of (triplets_over ts lent) (length ts)) i past ≡ get_or ts i past
-    at l =
-        values_at _ past l
-        ∙ λ s. record { row = field_at (λ t. t.row) lent.rows l s; column = field_at (λ t. t.column) lent.columns l s; value = field_at (λ t. t.value) lent.values l s }
+    field_at : {A : Type 0} (f : Triplet → A) (old : List A) {i : ℕ} → i < length ts → f (get_or ts i past) ≡ get_or (over (map f ts) old) i (f past)
+    field_at f old {i} l = sym (over_at (map f ts) old (f past) (rw length-map l) ∙ get_or-map f ts i past)
 
 -- ---- by point
 

@@ -1,17 +1,16 @@
--- The order of values: of two plain ones it is that of their units, which are the values exactly; zero is below what is above it and no plain value is below zero; and x ≤ y says that both are numbers and y < x is not so. Assumes nothing.
+-- The order of values: of two plain ones it is that of their units, which are the values exactly, and zero is below what is above it and no plain value is below zero. Assumes nothing.
 use mathlib.Core.Path.{◌≡◌, refl, sym}
 use mathlib.Core.Logic.{◌↔◌}
-use mathlib.Core.Bool.{Bool, true, false, not, ◌&&◌, ◌||◌}
-use Prim.Native.Nat.{ℕ, zero, suc, ◌+◌, ◌*◌, ◌^◌, ◌<◌}
+use mathlib.Core.Bool.{Bool, true, false}
+use Prim.Native.Nat.{ℕ, zero, suc, ◌*◌, ◌^◌, ◌<◌}
 use native.Mathlib.Nat.{lt_of_not-le, not-le_of_lt, mul-le-mul_right, le_of_mul-le-mul_right, mul-pos, zero-lt-suc}
 use native.Mathlib.Omega.{arith}
 use lib.IntN.{ℤ}
-use lib.Dec.{T, ltb, eqb, ltb→lt, lt→ltb}
+use lib.Dec.{T, ltb→lt, lt→ltb}
 use lib.Pow.{pow_pos}
-use lib.Ieee.{Float, nan, inf, fin, up, down, below, level, is_nan, lt, le}
+use lib.Ieee.{Float, nan, inf, fin, up, down, lt}
 use lib.Ieee.Fits.{up_pos, down_pos}
 use lib.Ieee.Order.{transfer}
-use borrow.Author.Tests.{ltb-true, ltb-false, eqb-true, eqb-false}
 use Rattle.definition.specs.Root.{in_units, plain, Held}
 use Rattle.definition.proofs.Root.Units.{valued}
 
@@ -63,42 +62,3 @@ unfolding lt
 lt_nan nan = refl
 lt_nan (inf s) = refl
 lt_nan (fin s m e) = refl
-
--- ---- `le`, by whether the signs are the same
-same_sign : (a b : ℕ) (x y z : Bool) → ltb a b ≡ x → eqb a b ≡ y → ltb b a ≡ z → ((x || (y && true)) ≡ not z) × ((z || (y && true)) ≡ not x)
-same_sign a b true true z p q r = absurd (omega (arith, ltb-true, eqb-true))
-same_sign a b true false true p q r = absurd (omega (arith, ltb-true))
-same_sign a b true false false p q r = (refl, refl)
-same_sign a b false true true p q r = absurd (omega (arith, ltb-true, eqb-true))
-same_sign a b false true false p q r = (refl, refl)
-same_sign a b false false true p q r = (refl, refl)
-same_sign a b false false false p q r = absurd (omega (arith, ltb-false, eqb-false a b q))
-
-other_sign : (a b c : ℕ) (x y z : Bool) → c ≡ a + b → eqb a b ≡ x → eqb a 0 ≡ y → ltb 0 c ≡ z → ((z || (x && y)) ≡ true) × ((x && y) ≡ not z)
-other_sign a b c true true true e p q r = absurd (omega (arith, ltb-true, eqb-true))
-other_sign a b c true true false e p q r = (refl, refl)
-other_sign a b c true false true e p q r = (refl, refl)
-other_sign a b c true false false e p q r = absurd (omega (arith, ltb-false, eqb-false a 0 q))
-other_sign a b c false y true e p q r = (refl, refl)
-other_sign a b c false y false e p q r = absurd (omega (arith, ltb-false, eqb-false a b p))
-
-below_level : (s t : Bool) (a b : ℕ) → (below s a t b || level s a t b) ≡ not (below t b s a)
-below_level false false a b = (same_sign a b (ltb a b) (eqb a b) (ltb b a) refl refl refl).0
-below_level true true a b = (same_sign a b (ltb a b) (eqb a b) (ltb b a) refl refl refl).1
-below_level true false a b = (other_sign a b (a + b) (eqb a b) (eqb a 0) (ltb 0 (a + b)) refl refl refl refl).0
-below_level false true a b = (other_sign a b (b + a) (eqb a b) (eqb a 0) (ltb 0 (b + a)) (omega arith) refl refl refl).1
-
-pub le_is : (u v : Float) → le u v ≡ not (is_nan u || is_nan v || lt v u)
-unfolding le lt is_nan
-le_is nan v = refl
-le_is (inf s) nan = refl
-le_is (inf true) (inf true) = refl
-le_is (inf true) (inf false) = refl
-le_is (inf false) (inf true) = refl
-le_is (inf false) (inf false) = refl
-le_is (inf true) (fin t n d) = refl
-le_is (inf false) (fin t n d) = refl
-le_is (fin s m e) nan = refl
-le_is (fin s m e) (inf true) = refl
-le_is (fin s m e) (inf false) = refl
-le_is (fin s m e) (fin t n d) = below_level s t (m * up e * down d) (n * up d * down e)

@@ -4,7 +4,8 @@ use Rattle.std.proofs.lemmas.Grind.{common_steps}
 use Rattle.definition.specs.Questions.{asked}
 use Rattle.definition.specs.Job.{is_head, empty_job, taken, within_limits, record_questions}
 use Rattle.records.proofs.Marks.{room_is}
-use Rattle.records.proofs.Reached.{held, head_first}
+use Rattle.definition.proofs.Passing.{held}
+use Rattle.records.proofs.Reached.{head_first}
 use Rattle.records.proofs.Job.record_questions.Goals as goal
 
 pub returns : goal.returns
