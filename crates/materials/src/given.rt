@@ -72,12 +72,12 @@ impl<'a> Materials<'a> {
         lists::part(self.table, 16, number)
     }
 
-    // The material of an element: that of its number, turned by the element's pair where pairs are given.
+    // A material of the table, turned by an element's pair where pairs are given.
     #[tactic(auto, unfolding(definition::specs::Rows::oriented_material))]
-    pub fn oriented(&self, element_index: usize) -> [f64; 16]
-        ensures { result ≡ sixteen (oriented_material self.now.table (get_or self.now.ids element_index 0) self.now.pairs_given self.now.pairs element_index) }
+    pub fn oriented(&self, number: usize, element_index: usize) -> [f64; 16]
+        ensures { result ≡ sixteen (oriented_material self.now.table number self.now.pairs_given self.now.pairs element_index) }
     {
-        let material = self.part(self.id(element_index));
+        let material = self.part(number);
         match self.pairs {
             Some(pairs) => {
                 let pair = lists::pair_at(pairs, element_index);

@@ -97,79 +97,87 @@ fn copy_material(material: &[f64]) -> [f64; 16]
 
 // ---- a material turned in the plane
 
-// The matrix that takes strains to the material's own axes.
-// Kept: the definition's two numbers of a pair; a struct for them would be taken apart at once, and is no plainer.
-fn strain_to_local(c: f64, s: f64) -> [f64; 16]
-    ensures { result ≡ strain_to_local c s }
-{
-    let cc = c * c;
-    let ss = s * s;
-    let cs = c * s;
-    [
-        cc,
-        ss,
-        0.0,
-        cs,
-        ss,
-        cc,
-        0.0,
-        -cs,
-        0.0,
-        0.0,
-        1.0,
-        0.0,
-        -2.0 * cs,
-        2.0 * cs,
-        0.0,
-        cc - ss,
-    ]
+// The pair (c, s) that a material is turned by: the cosine and the sine of an angle, or any two numbers.
+#[derive(Clone, Copy)]
+struct Turn {
+    c: f64,
+    s: f64,
 }
 
-// The matrix that takes stresses back from the material's own axes.
-// Kept: the definition's two numbers of a pair; a struct for them would be taken apart at once, and is no plainer.
-fn stress_to_global(c: f64, s: f64) -> [f64; 16]
-    ensures { result ≡ stress_to_global c s }
-{
-    let cc = c * c;
-    let ss = s * s;
-    let cs = c * s;
-    [
-        cc,
-        ss,
-        0.0,
-        -2.0 * cs,
-        ss,
-        cc,
-        0.0,
-        2.0 * cs,
-        0.0,
-        0.0,
-        1.0,
-        0.0,
-        cs,
-        -cs,
-        0.0,
-        cc - ss,
-    ]
-}
+impl Turn {
+    // The matrix that takes strains to the material's own axes.
+    fn strain_to_local(self) -> [f64; 16]
+        ensures { result ≡ strain_to_local self.c self.s }
+    {
+        let Turn { c, s } = self;
+        let cc = c * c;
+        let ss = s * s;
+        let cs = c * s;
+        [
+            cc,
+            ss,
+            0.0,
+            cs,
+            ss,
+            cc,
+            0.0,
+            -cs,
+            0.0,
+            0.0,
+            1.0,
+            0.0,
+            -2.0 * cs,
+            2.0 * cs,
+            0.0,
+            cc - ss,
+        ]
+    }
 
-// Whether a pair is equal to (1, 0), where a zero of either sign is.
-// Kept: the definition's two numbers of a pair; a struct for them would be taken apart at once, and is no plainer.
-fn is_unturned(c: f64, s: f64) -> bool
-    ensures { result ≡ eq c one && eq s plus0 }
-{
-    c == 1.0 && s == 0.0
+    // The matrix that takes stresses back from the material's own axes.
+    fn stress_to_global(self) -> [f64; 16]
+        ensures { result ≡ stress_to_global self.c self.s }
+    {
+        let Turn { c, s } = self;
+        let cc = c * c;
+        let ss = s * s;
+        let cs = c * s;
+        [
+            cc,
+            ss,
+            0.0,
+            -2.0 * cs,
+            ss,
+            cc,
+            0.0,
+            2.0 * cs,
+            0.0,
+            0.0,
+            1.0,
+            0.0,
+            cs,
+            -cs,
+            0.0,
+            cc - ss,
+        ]
+    }
+
+    // Whether the pair is equal to (1, 0), where a zero of either sign is.
+    fn is_unturned(self) -> bool
+        ensures { result ≡ eq self.c one && eq self.s plus0 }
+    {
+        self.c == 1.0 && self.s == 0.0
+    }
 }
 
 // A material turned by the pair (c, s): a pair equal to (1, 0) copies it, and any other turns strains to its axes and stresses back.
-// Kept: the definition's two numbers of a pair; a struct for them would be taken apart at once, and is no plainer.
 #[tactic(auto, using(crate::proofs::Turning::copied, crate::proofs::Turning::turned))]
 pub fn rotate_material_in_plane(material: &[f64], c: f64, s: f64) -> [f64; 16]
     ensures { result ≡ sixteen (rotated material.now c s) }
 {
-    if is_unturned(c, s) {
+    let turn = Turn { c, s };
+    if turn.is_unturned() {
         return copy_material(material);
     }
-    let half = product(&copy_material(material), &strain_to_local(c, s));
-    product(&stress_to_global(c, s), &half)
+    let half = product(&copy_material(material), &turn.strain_to_local());
+    product(&turn.stress_to_global(), &half)
 }

@@ -1,10 +1,12 @@
 -- The strain values by rows: each row is written from its place on, and the lists that the rows are made of hold what the definition reads. Assumes nothing.
-use mathlib.Core.Path.{◌≡◌, refl}
+use mathlib.Core.Path.{◌≡◌, refl, ◌∙◌}
 use mathlib.Core.List.{List, [], ◌∷◌}
 use Prim.Native.Nat.{ℕ, ◌+◌, ◌*◌, ◌≤◌, ◌<◌}
 use native.Mathlib.Omega.{arith}
-use lib.ListN.{get_or, replicate, get_or-replicate}
+use lib.ListN.{length, get_or, take, replicate, get_or-replicate, length-replicate}
+use lib.Seq.{length-take-le}
 use lib.Ieee.{Float, nan}
+use Rattle.std.proofs.lemmas.List.{get_or-take}
 use Rattle.definition.specs.Lists.{each, over}
 use Rattle.definition.specs.Binary64.{plus0}
 use Rattle.definition.specs.Mapping.{first, second}
@@ -27,32 +29,40 @@ row_next : (value : ℕ → ℕ → ℕ → Float) (F i : ℕ) {at : ℕ} {befor
     at ≡ 2 * F * i → before ≡ over (each (row_of value F) i) old → after ≡ over_from at row before → row ≡ row_of value F i → after ≡ over (each (row_of value F) (i + 1)) old
 row_next value F i old p q e r = part_next (row_of value F) (2 * F) i old (row_length value F) q (rw (r, p) at e)
 
-module _ (x y t : List Float) {F : ℕ} (few : F ≤ 9) where
-  none_at : (j : ℕ) → j < F → get_or (replicate 9 plus0) j nan ≡ plus0
-  none_at j h = get_or-replicate 9 j plus0 nan (omega arith)
+-- as many zeros as there are nodes
+abbrev pub zeros : ℕ → List Float
+zeros F = take F (replicate 9 plus0)
 
-  pub rows_written : (old : List Float) {a b c d : List Float} →
-      a ≡ over_from 0 (pairs x (replicate 9 plus0) F) old →
-      b ≡ over_from (2 * F) (pairs (replicate 9 plus0) y F) a →
-      c ≡ over_from (4 * F) (pairs t (replicate 9 plus0) F) b →
-      d ≡ over_from (6 * F) (pairs y x F) c →
-      d ≡ over (values_of (entry_by x y t) F) old
-  unfolding values_of entry_by each over
-  rows_written old p q r s =
-      row_next (entry_by x y t) F 3 old (omega arith)
-      (row_next (entry_by x y t) F 2 old (omega arith)
-      (row_next (entry_by x y t) F 1 old (omega arith)
-      (row_next (entry_by x y t) F 0 old (omega arith) refl p (each_same (λ j h. rw (none_at j h))))
-      q (each_same (λ j h. rw (none_at j h))))
-      r (each_same (λ j h. rw (none_at j h))))
-      s refl
+module _ {F : ℕ} (few : F ≤ 9) where
+  zero_at : (j : ℕ) → j < F → get_or (zeros F) j nan ≡ plus0
+  zero_at j h = get_or-take F (replicate 9 plus0) j nan h ∙ get_or-replicate 9 j plus0 nan (omega arith)
+
+  zeros_length : length (zeros F) ≡ F
+  zeros_length = length-take-le F (replicate 9 plus0) (rw length-replicate few)
+
+pub rows_written : (x y t old : List Float) {a b c d : List Float} → length x ≤ 9 → length y ≡ length x → length t ≡ length x →
+    a ≡ over_from 0 (pairs x (zeros (length x)) (length x)) old →
+    b ≡ over_from (2 * length x) (pairs (zeros (length x)) y (length (zeros (length x)))) a →
+    c ≡ over_from (4 * length x) (pairs t (zeros (length x)) (length t)) b →
+    d ≡ over_from (6 * length x) (pairs y x (length y)) c →
+    d ≡ over (values_of (entry_by x y t) (length x)) old
+unfolding values_of entry_by each over
+rows_written x y t old few same_y same_t p q r s =
+    row_next (entry_by x y t) (length x) 3 old (omega arith)
+    (row_next (entry_by x y t) (length x) 2 old (omega arith)
+    (row_next (entry_by x y t) (length x) 1 old (omega arith)
+    (row_next (entry_by x y t) (length x) 0 old (omega arith) refl p (each_same (λ j h. rw (zero_at few j h))))
+    (rw (zeros_length few) at q) (each_same (λ j h. rw (zero_at few j h))))
+    (rw same_t at r) (each_same (λ j h. rw (zero_at few j h))))
+    (rw same_y at s) refl
 
 -- ---- the lists that the rows are made of
 
-pub entries_are : (f : Structural2dFormulation) (b : Basis) (x y t : List Float) {F : ℕ} →
+pub entries_are : (f : Structural2dFormulation) (b : Basis) (x y t : List Float) {F : ℕ} → F ≤ length x →
     ((j : ℕ) → j < F → get_or x j nan ≡ first b.gradient j) →
     ((j : ℕ) → j < F → get_or y j nan ≡ second b.gradient j) →
     ((j : ℕ) → j < F → get_or t j nan ≡ hoop f b j) →
-    values_of (entry_by x y t) F ≡ values_of (strain_entry f b) F
+    values_of (entry_by (take F x) (take F y) (take F t)) (length (take F x)) ≡ values_of (strain_entry f b) F
 unfolding entry_by strain_entry
-entries_are f b x y t p q r = values_of_same (λ i j d a h. rw (p j h, q j h, r j h))
+entries_are f b x y t {F} few p q r =
+    rw (length-take-le F x few) (values_of_same (λ i j d a h. rw (get_or-take F x j nan h, get_or-take F y j nan h, get_or-take F t j nan h, p j h, q j h, r j h)))

@@ -59,30 +59,31 @@ fn hoop_at(
 // ---- the rows
 
 // One component's row, two numbers a node, from a place on.
-// Kept: the values of up to nine nodes stand in arrays of nine, in fixed memory; the count says how many nodes there are.
-fn put_pairs(first: &[f64; 9], second: &[f64; 9], count: usize, at: usize, out: &mut [f64])
-    requires { (count ≤ 9) × (at + 2 * count ≤ length out.old) }
-    ensures { out.new ≡ over_from at (each (λ j. get_or first.now j nan ∷ get_or second.now j nan ∷ []) count) out.old }
+fn put_pairs(first: &[f64], second: &[f64], at: usize, out: &mut [f64])
+    requires alike { length second.now ≡ length first.now }
+    requires room { at + 2 * length first.now ≤ length out.old }
+    ensures { out.new ≡ over_from at (each (λ j. get_or first.now j nan ∷ get_or second.now j nan ∷ []) (length first.now)) out.old }
 {
-    for j in 0..count {
+    for j in 0..first.len() {
         let k = at + 2 * j;
         out[k] = first[j];
         out[k + 1] = second[j];
     }
 }
 
-// The four rows, over the lent array, from the gradients by x and by y and the tt values.
-// Kept: the values of up to nine nodes stand in arrays of nine, in fixed memory; the count says how many nodes there are.
+// The four rows, over the lent array, from the gradients by x and by y and the tt values of the nodes.
 #[tactic(auto, using(crate::proofs::Strain::rows_written), unfolding(std::specs::Prelude::from_bits))]
-fn strain_rows(by_x: &[f64; 9], by_y: &[f64; 9], hoop: &[f64; 9], count: usize, out: &mut [f64; 72])
-    requires { count ≤ 9 }
-    ensures { out.new ≡ listed (entry_by by_x.now by_y.now hoop.now) count out.old }
+fn strain_rows(by_x: &[f64], by_y: &[f64], hoop: &[f64], out: &mut [f64; 72])
+    requires few { length by_x.now ≤ 9 }
+    requires alike { (length by_y.now ≡ length by_x.now) × (length hoop.now ≡ length by_x.now) }
+    ensures { out.new ≡ listed (entry_by by_x.now by_y.now hoop.now) (length by_x.now) out.old }
 {
-    let none = [0.0; 9];
-    put_pairs(by_x, &none, count, 0, out);
-    put_pairs(&none, by_y, count, 2 * count, out);
-    put_pairs(hoop, &none, count, 4 * count, out);
-    put_pairs(by_y, by_x, count, 6 * count, out);
+    let count = by_x.len();
+    let zeros = &[0.0; 9][..count];
+    put_pairs(by_x, zeros, 0, out);
+    put_pairs(zeros, by_y, 2 * count, out);
+    put_pairs(hoop, zeros, 4 * count, out);
+    put_pairs(by_y, by_x, 6 * count, out);
 }
 
 // The strain values of a point, over the lent array: the value of component i, local node j and displacement component d stands at (i * F + j) * 2 + d. The places past the family's nodes keep what they held.
@@ -101,7 +102,7 @@ pub fn put_strain_values(
     let by_x = column(&gradient, 0);
     let by_y = column(&gradient, 1);
     let hoop = hoop_at(formulation, e, reference);
-    strain_rows(&by_x, &by_y, &hoop, count, out);
+    strain_rows(&by_x[..count], &by_y[..count], &hoop[..count], out);
 }
 
 // The strain values at a reference point of an element of the mesh, over the lent array.

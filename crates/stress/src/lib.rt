@@ -46,7 +46,8 @@ impl<'c, 'a> Operator<4, 2> for Stress<'c, 'a> {
         let base = self.base();
         let mesh = base.mesh();
         let element_index = base.element_at(p);
-        let oriented = self.0.materials().oriented(element_index);
+        let number = self.0.material_at(p);
+        let oriented = self.0.materials().oriented(number, element_index);
         let mut strain = [0.0; 72];
         rows::put_strain_at(
             mesh,

@@ -11,5 +11,5 @@ pub returns : goal.returns
 unfolding values_of
 returns c =
     let q = c.args.self.now.0.now in
-    rw (c.oriented-oriented.ensures, c.put_strain_at.ensures, c.materials.ensures, c.element_at-element_index.ensures, c.reference_at.ensures, c.formulation.ensures, c.strain.ensures, c.family.ensures, c.mesh-mesh.ensures, c.base-base.ensures) at c.put_stress_values.ensures
+    rw (c.oriented-oriented.ensures, c.put_strain_at.ensures, c.materials.ensures, c.material_at-number.ensures, c.element_at-element_index.ensures, c.reference_at.ensures, c.formulation.ensures, c.strain.ensures, c.family.ensures, c.mesh-mesh.ensures, c.base-base.ensures) at c.put_stress_values.ensures
     ∙ ap (λ l. over l c.args.out.now) (stress_of_strain (oriented_at q c.args.p) q.formulation (basis_of q.base c.args.p) (nodes_of q.base.mesh.family) _)
