@@ -15,8 +15,9 @@ use Rattle.definition.specs.declared.Structural2dFormulation.{Structural2dFormul
 use Rattle.definition.proofs.Lists.{each_same}
 use Rattle.materials.specs.Products.{over_from}
 use Rattle.materials.proofs.Writing.{part_next}
-use Rattle.rows.specs.Values.{values_of, entry_by}
-use Rattle.rows.proofs.Values.{row_of, row_length, values_of_same}
+use Rattle.lists.specs.Values.{values_of}
+use Rattle.lists.proofs.Values.{row_of, row_length, values_of_same}
+use Rattle.rows.specs.Values.{entry_by}
 
 -- ---- the four rows
 
@@ -26,8 +27,8 @@ pairs x y F = each (λ j. get_or x j nan ∷ get_or y j nan ∷ []) F
 
 -- the next row is written
 row_next : (value : ℕ → ℕ → ℕ → Float) (F i : ℕ) {at : ℕ} {before after row : List Float} (old : List Float) →
-    at ≡ 2 * F * i → before ≡ over (each (row_of value F) i) old → after ≡ over_from at row before → row ≡ row_of value F i → after ≡ over (each (row_of value F) (i + 1)) old
-row_next value F i old p q e r = part_next (row_of value F) (2 * F) i old (row_length value F) q (rw (r, p) at e)
+    at ≡ 2 * F * i → before ≡ over (each (row_of 2 F value) i) old → after ≡ over_from at row before → row ≡ row_of 2 F value i → after ≡ over (each (row_of 2 F value) (i + 1)) old
+row_next value F i old p q e r = part_next (row_of 2 F value) (2 * F) i old (row_length 2 F value) q (rw (r, p) at e)
 
 -- as many zeros as there are nodes
 abbrev pub zeros : ℕ → List Float
@@ -45,8 +46,8 @@ pub rows_written : (x y t old : List Float) {a b c d : List Float} → length x 
     b ≡ over_from (2 * length x) (pairs (zeros (length x)) y (length (zeros (length x)))) a →
     c ≡ over_from (4 * length x) (pairs t (zeros (length x)) (length t)) b →
     d ≡ over_from (6 * length x) (pairs y x (length y)) c →
-    d ≡ over (values_of (entry_by x y t) (length x)) old
-unfolding values_of entry_by each over
+    d ≡ over (values_of 4 2 (length x) (entry_by x y t)) old
+unfolding entry_by each over
 rows_written x y t old few same_y same_t p q r s =
     row_next (entry_by x y t) (length x) 3 old (omega arith)
     (row_next (entry_by x y t) (length x) 2 old (omega arith)
@@ -62,7 +63,7 @@ pub entries_are : (f : Structural2dFormulation) (b : Basis) (x y t : List Float)
     ((j : ℕ) → j < F → get_or x j nan ≡ first b.gradient j) →
     ((j : ℕ) → j < F → get_or y j nan ≡ second b.gradient j) →
     ((j : ℕ) → j < F → get_or t j nan ≡ hoop f b j) →
-    values_of (entry_by (take F x) (take F y) (take F t)) (length (take F x)) ≡ values_of (strain_entry f b) F
+    values_of 4 2 (length (take F x)) (entry_by (take F x) (take F y) (take F t)) ≡ values_of 4 2 F (strain_entry f b)
 unfolding entry_by strain_entry
 entries_are f b x y t {F} few p q r =
-    rw (length-take-le F x few) (values_of_same (λ i j d a h. rw (get_or-take F x j nan h, get_or-take F y j nan h, get_or-take F t j nan h, p j h, q j h, r j h)))
+    rw (length-take-le F x few) (values_of_same 2 (λ i j d a h. rw (get_or-take F x j nan h, get_or-take F y j nan h, get_or-take F t j nan h, p j h, q j h, r j h)))

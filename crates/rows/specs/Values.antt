@@ -1,17 +1,14 @@
--- The values of a point in the order of its triplets, and the strain values by the three lists that they are made of.
-use Rattle.std.specs.Prelude.{List, [], ◌∷◌, ℕ, get_or, Float}
+-- The strain values of a point over an array, and by the three lists that they are made of.
+use Rattle.std.specs.Prelude.{List, ℕ, get_or, Float}
 use Rattle.std.specs.Float.{nan}
-use Rattle.definition.specs.Lists.{each, over}
+use Rattle.definition.specs.Lists.{over}
 use Rattle.definition.specs.Binary64.{plus0}
 use Rattle.definition.specs.Rows.{of_two, of_four}
-
--- "by point, component, local node, displacement component": the values of a point, of an element of F nodes
-unfoldable pub values_of : (ℕ → ℕ → ℕ → Float) → ℕ → List Float
-values_of value F = each (λ i. each (λ j. each (λ d. value i j d ∷ []) 2) F) 4
+use Rattle.lists.specs.Values.{values_of}
 
 -- the values of a point, two columns a node, written over an array
 abbrev pub listed : (ℕ → ℕ → ℕ → Float) → ℕ → List Float → List Float
-listed value nodes old = over (values_of value nodes) old
+listed value nodes old = over (values_of 4 2 nodes value) old
 
 -- the strain entry where the lists hold, for each node, the gradient by x, the gradient by y and the tt value
 unfoldable pub entry_by : List Float → List Float → List Float → ℕ → ℕ → ℕ → Float

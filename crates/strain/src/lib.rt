@@ -41,7 +41,6 @@ impl<'c, 'a> Operator<4, 2> for Strain<'c, 'a> {
         operator_questions::strain_questions(self.0, room)
     }
 
-    #[tactic(auto, unfolding(rows::specs::Values::values_of))]
     fn put_values(&self, p: usize, out: &mut [f64; 72]) {
         let base = self.0.base();
         rows::put_strain_at(
