@@ -2,48 +2,27 @@
 use mathlib.Core.Path.{◌≡◌, ap, ◌∙◌}
 use mathlib.Core.Bool.{true, false, cond}
 use mathlib.Core.List.{List, [], ◌∷◌}
-use Prim.Native.Nat.{ℕ, zero, suc, ◌+◌, ◌-◌, ◌*◌, ◌≤◌, ◌<◌}
+use Prim.Native.Nat.{ℕ, ◌+◌, ◌-◌, ◌*◌, ◌≤◌}
 use native.Mathlib.Nat.{add_assoc}
 use native.Mathlib.Omega.{arith}
-use lib.ListN.{length, get_or, take, drop, length-append}
+use lib.ListN.{length, get_or, take, drop}
 use Rattle.std.proofs.lemmas.List.{get_or-take, get_or-drop, length-take-le, length-drop, take_rest}
 use lib.Ieee.{Float, nan, eq}
 use Rattle.definition.specs.Binary64.{plus0}
 use Rattle.definition.specs.Elements.{nodes_of}
 use Rattle.definition.specs.Lists.{each, over}
-use Rattle.definition.specs.Query.{values}
 use Rattle.definition.specs.Mesh.{element_nodes}
 use Rattle.definition.specs.Operators.{InterpolationCall, element_at}
 use Rattle.definition.specs.Rows.{Triplet, kept, point_triplets}
-use Rattle.definition.proofs.Lists.{each_same, each_length, each_at, values_length, values_at, over_at}
-use Rattle.lists.proofs.Parts.{part_fits}
+use Rattle.definition.proofs.Lists.{each_same, each_most}
+use Rattle.lists.specs.Values.{values_of}
+use Rattle.lists.proofs.Values.{written_at}
 use Rattle.triplets.specs.declared.lent.Strip.{Strip}
 use Rattle.triplets.specs.Lent.{Puts}
 use Rattle.triplets.proofs.Putting.{puts_each}
-use Rattle.operators.specs.Values.{values_of, triplets_till}
+use Rattle.operators.specs.Values.{triplets_till}
 
--- ---- the values of a point at their places
-
--- the values of a component
-abbrev row_of : ℕ → ℕ → (ℕ → ℕ → ℕ → Float) → ℕ → List Float
-row_of c F value i = each (λ j. values (value i j) c) F
-
-row_length : (c F : ℕ) (value : ℕ → ℕ → ℕ → Float) (i : ℕ) → length (row_of c F value i) ≡ c * F
-row_length c F value i = each_length (λ j. values (value i j) c) (λ j l. values_length (value i j) c)
-
-values_of_length : (k c F : ℕ) (value : ℕ → ℕ → ℕ → Float) → length (values_of k c F value) ≡ c * F * k
-values_of_length k c F value = each_length (row_of c F value) (λ i l. row_length c F value i)
-
--- the value of component i, node j and displacement component d
-module _ (value : ℕ → ℕ → ℕ → Float) {k c F i j d : ℕ} (a : i < k) (b : j < F) (l : d < c) where
-  values_of_at : get_or (values_of k c F value) (c * F * i + (c * j + d)) nan ≡ value i j d
-  values_of_at =
-      each_at (row_of c F value) nan (λ i h. row_length c F value i) a (omega (arith, part_fits c b))
-      ∙ each_at (λ j. values (value i j) c) nan (λ j h. values_length (value i j) c) b l
-      ∙ values_at (value i j) nan l
-
-  pub written_at : (old : List Float) → get_or (over (values_of k c F value) old) (c * F * i + (c * j + d)) nan ≡ value i j d
-  written_at old = over_at (values_of k c F value) old nan (rw (values_of_length k c F value) (omega (arith, part_fits (c * F) a, part_fits c b))) ∙ values_of_at
+-- ---- the triplets of one point
 
 -- triplets whose values are read from an array
 entries_are : (k c F p : ℕ) (node : ℕ → ℕ) (value : ℕ → ℕ → ℕ → Float) (old : List Float) →
@@ -85,11 +64,6 @@ point_next q k c value p old count row entries_is before put =
 
 -- ---- how many there are
 
-each_most : {A : Type 0} (g : ℕ → List A) {k : ℕ} (n : ℕ) → ((i : ℕ) → length (g i) ≤ k) → length (each g n) ≤ k * n
-unfolding each
-each_most g zero h = omega arith
-each_most g (suc n) h = rw length-append (omega (arith, each_most g n h, h n))
-
 kept_most : (r c : ℕ) (v : Float) → length (kept r c v) ≤ 1
 unfolding kept
 kept_most r c v = elim (eq v plus0) as (λ b. length {A = Triplet} (cond b [] (record { row = r; column = c; value = v } ∷ [])) ≤ 1) [ true ↦ omega arith | false ↦ omega arith ]
@@ -98,5 +72,5 @@ kept_most r c v = elim (eq v plus0) as (λ b. length {A = Triplet} (cond b [] (r
 pub triplets_most : (q : InterpolationCall) (k c : ℕ) (value : ℕ → ℕ → ℕ → ℕ → Float) (n : ℕ) → length (triplets_till q k c value n) ≤ k * c * nodes_of q.mesh.family * n
 unfolding point_triplets
 triplets_most q k c value n =
-    let most : length (triplets_till q k c value n) ≤ 1 * c * nodes_of q.mesh.family * k * n = each_most _ n (λ p. each_most _ k (λ i. each_most _ (nodes_of q.mesh.family) (λ j. each_most _ c (λ d. kept_most _ _ _)))) in
+    let most : length (triplets_till q k c value n) ≤ 1 * c * nodes_of q.mesh.family * k * n = each_most _ (λ p _. each_most _ (λ i _. each_most _ (λ j _. each_most _ (λ d _. kept_most _ _ _)))) in
     omega (arith, most)

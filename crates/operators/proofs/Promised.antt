@@ -1,5 +1,5 @@
 -- A refused operator and an accepted one keep the operator's promise: by what its questions come to. Assumes nothing.
-use mathlib.Core.Path.{◌≡◌, refl, sym, ap, ◌∙◌}
+use mathlib.Core.Path.{◌≡◌, refl, sym, ◌∙◌}
 use mathlib.Core.Bool.{Bool, true, ◌&&◌}
 use mathlib.Core.List.{List, [], ◌∷◌, ◌++◌}
 use Prim.Native.Nat.{ℕ, ◌≤◌}
@@ -13,14 +13,14 @@ use Rattle.std.proofs.lemmas.Bool.{and_parts}
 use Rattle.definition.specs.Questions.{Question, Outcome, accepted, refused, asked, onward, number_of, whole, family_known, nodes_whole, elements_whole, references_whole, room}
 use Rattle.definition.specs.Operators.{Operator, InterpolationCall, TripletLists, triplet_room, mesh_questions, operated, OperatorPromise}
 use Rattle.definition.specs.declared.Refusal.{Refusal}
-use Rattle.definition.proofs.Passing.{passes, asked_accepted, asked_value}
+use Rattle.definition.proofs.Passing.{passes, asked_accepted, asked_with}
 use Rattle.triplets.specs.Strip.{Strip, written}
 use Rattle.triplets.proofs.Strips.{Room, written_over}
 
 module _ (o : Operator) (lent : TripletLists) where
   operated_is : {v : Outcome (Unit {0})} → v ≡ asked o.questions (tt {0}) → operated o ≡ onward v (accepted (record { rows = o.rows; columns = o.columns; triplets = length o.triplets }))
   unfolding operated
-  operated_is e = asked_value o.questions (record { rows = o.rows; columns = o.columns; triplets = length o.triplets }) ∙ ap (λ v. onward v (accepted (record { rows = o.rows; columns = o.columns; triplets = length o.triplets }))) (sym e)
+  operated_is e = asked_with o.questions (record { rows = o.rows; columns = o.columns; triplets = length o.triplets }) e
 
   pub refused_kept : (r : Refusal) → refused (number_of r.question) r.place ≡ asked o.questions (tt {0}) → OperatorPromise o lent (Err r) lent
   refused_kept r e =

@@ -1,14 +1,10 @@
--- The values of a point in the order of its triplets, and the triplets of the points met.
-use Rattle.std.specs.Prelude.{List, [], ◌∷◌, ℕ, Float}
+-- The triplets of the points met.
+use Rattle.std.specs.Prelude.{List, ℕ, Float}
 use Rattle.definition.specs.Elements.{nodes_of}
 use Rattle.definition.specs.Lists.{each}
 use Rattle.definition.specs.Mesh.{node_of}
 use Rattle.definition.specs.Operators.{InterpolationCall, element_at}
 use Rattle.definition.specs.Rows.{Triplet, point_triplets}
-
--- "by point, component, local node, displacement component": the values of a point, with k rows a point and c columns a node, of an element of F nodes
-abbrev pub values_of : ℕ → ℕ → ℕ → (ℕ → ℕ → ℕ → Float) → List Float
-values_of k c F value = each (λ i. each (λ j. each (λ d. value i j d ∷ []) c) F) k
 
 -- the triplets of the first n points, with k rows a point and c columns a node
 abbrev pub triplets_till : InterpolationCall → ℕ → ℕ → (ℕ → ℕ → ℕ → ℕ → Float) → ℕ → List Triplet

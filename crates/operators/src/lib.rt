@@ -10,7 +10,8 @@ ghost use Rattle.definition.specs.Questions.{Question, accepted, asked, outcome}
 ghost use Rattle.definition.specs.Operators.{InterpolationCall as Base, TripletLists as Lists, triplet_room, operator_of, OperatorPromise};
 ghost use Rattle.definition.specs.Rows.{kept, point_triplets};
 ghost use Rattle.triplets.specs.Lent.{triplet_lists, SameLists, Puts};
-ghost use Rattle.operators.specs.Values.{values_of, triplets_till};
+ghost use Rattle.lists.specs.Values.{values_of};
+ghost use Rattle.operators.specs.Values.{triplets_till};
 
 use calls::InterpolationCall;
 use definition::{OperatorCounts, Refusal};
