@@ -2,7 +2,7 @@
 use mathlib.Core.Path.{◌≡◌, refl}
 use mathlib.Core.List.{[], ◌∷◌}
 use Prim.Native.Nat.{ℕ}
-use lib.Ieee.{Float}
+use Rattle.std.specs.Prelude.{map}
 use Rattle.std.specs.List.{fold}
 use Rattle.definition.specs.Binary64.{plus0, one, minus_one}
 use Rattle.definition.specs.Mapping.{point_at}
@@ -14,11 +14,8 @@ use Rattle.definition.specs.declared.GatheredElement.{GatheredElement}
 use Rattle.search.specs.Places.{on_face}
 
 module _ (e : GatheredElement) (t : Point) where
-  abbrev at : Float → Float → Best Reference
-  at ξ η = placed (point_at e) t (reference ξ η)
-
   -- the element search, from the places of its seeds
-  pub element_at_seeds : fold nearer (at plus0 plus0) (at plus0 plus0 ∷ at minus_one minus_one ∷ at one minus_one ∷ at one one ∷ at minus_one one ∷ at plus0 minus_one ∷ at one plus0 ∷ at plus0 one ∷ at minus_one plus0 ∷ []) ≡ element_best e t 0
+  pub element_at_seeds : fold nearer (placed (point_at e) t (reference plus0 plus0)) (map (placed (point_at e) t) element_seeds) ≡ element_best e t 0
   unfolding element_best best_of element_seeds walked stepped
   element_at_seeds = refl
 

@@ -21,7 +21,7 @@ const SHORT_SQUARE: f64 = 4.930380657631324e-32;
 const CENTRE: Reference = Reference { xi: 0.0, eta: 0.0 };
 
 // The seeds: centre, corners, midsides.
-const SEEDS: [Reference; 9] = [
+pub const SEEDS: [Reference; 9] = [
     CENTRE,
     Reference {
         xi: -1.0,
@@ -98,10 +98,11 @@ impl Hessian {
     }
 }
 
-// The references of an element.
+// The references of an element, and a target.
 #[derive(Clone, Copy)]
 pub struct ElementSearch<'a> {
     pub element: &'a GatheredElement,
+    pub target: Point,
 }
 
 impl<'a> Search for ElementSearch<'a> {
@@ -109,22 +110,30 @@ impl<'a> Search for ElementSearch<'a> {
 
     ghost point_of = { λ s. point_at s.element.now };
 
-    ghost step = { λ s. element_step s.element.now };
+    ghost target = { λ s. s.target };
+
+    ghost step = { λ s. element_step s.element.now s.target };
 
     #[inline(always)]
     fn point(&self, at: Reference) -> Point {
         mapping::point_at(self.element, at)
     }
 
+    #[inline(always)]
+    fn target(&self) -> Point {
+        self.target
+    }
+
     #[tactic(auto, unfolding(std::specs::Prelude::from_bits, definition::specs::Search::element_step, definition::specs::Search::ended_element))]
     #[inline(always)]
-    fn step(&self, target: Point, at: Reference) -> Step<Reference> {
+    fn step(&self, at: Reference) -> Step<Reference> {
         let f = mapping::frame_at(self.element, at);
         let hessian = Hessian::new(f.jacobian);
         if steps::within(hessian.det(), SINGULAR) {
             return Step::Stay;
         }
-        let next = hessian.next_reference(f.point.x - target.x, f.point.y - target.y, at);
+        let Point { x, y } = self.target;
+        let next = hessian.next_reference(f.point.x - x, f.point.y - y, at);
         if binary64::squared_distance(at.xi, at.eta, next.xi, next.eta) <= SHORT_SQUARE {
             Step::Last(next)
         } else {
@@ -141,18 +150,18 @@ impl<'a> Search for ElementSearch<'a> {
 }
 
 // The search of an element whose root is left to the caller, for whom the squared distance may be enough. Not inlined: in a larger function the step has fewer registers.
-// Kept: one search's call, with seeds of its own; what the two share is `searching::best`, and a struct of an element and a target for these calls is no plainer.
+// Kept: one search's call, with seeds of its own; what the two share is `searching::best`. An element and a target are two values of the definition, of which the search is made here.
 #[inline(never)]
 #[tactic(auto, unfolding(std::specs::Prelude::from_bits, definition::specs::Search::element_best, definition::specs::Search::element_seeds))]
 pub fn element_best(e: &GatheredElement, target: Point, limit: usize) -> Best<Reference>
     ensures { result ≡ element_best e.now target limit }
 {
-    let search = ElementSearch { element: e };
-    searching::best(&search, target, limit, CENTRE, &SEEDS)
+    let search = ElementSearch { element: e, target };
+    searching::best(&search, limit, CENTRE, &SEEDS)
 }
 
 // Where the target is nearest on element `element_index`, by at most `max_iterations` steps a seed.
-// Kept: a projection has fields of its own, which a generic function would still need named, and is no plainer; nor is a struct of an element and a target for these calls.
+// Kept: a projection has fields of its own, which a generic function would still need named, and is no plainer; an element and a target are two values of the definition.
 #[tactic(auto, unfolding(definition::specs::Search::closest_reference_point))]
 pub fn closest_reference_point(
     e: &GatheredElement,

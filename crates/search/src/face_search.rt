@@ -30,11 +30,12 @@ fn next_s(d: Point, square: f64, u: f64, v: f64, s: f64) -> f64
     binary64::clamp(s - (d.x * u + d.y * v) / square)
 }
 
-// The coordinates of a face of an element.
+// The coordinates of a face of an element, and a target.
 #[derive(Clone, Copy)]
 struct FaceSearch<'a> {
     element: &'a GatheredElement,
     local_face: u8,
+    target: Point,
 }
 
 impl<'a> Search for FaceSearch<'a> {
@@ -42,7 +43,9 @@ impl<'a> Search for FaceSearch<'a> {
 
     ghost point_of = { λ f. face_point f.element.now f.local_face };
 
-    ghost step = { λ f. face_step f.element.now f.local_face };
+    ghost target = { λ f. f.target };
+
+    ghost step = { λ f. face_step f.element.now f.local_face f.target };
 
     #[tactic(auto, unfolding(definition::specs::Search::face_point))]
     #[inline(always)]
@@ -51,9 +54,14 @@ impl<'a> Search for FaceSearch<'a> {
         mapping::point_at(self.element, f.into())
     }
 
+    #[inline(always)]
+    fn target(&self) -> Point {
+        self.target
+    }
+
     #[tactic(auto, unfolding(std::specs::Prelude::from_bits, definition::specs::Search::face_step, definition::specs::Search::ended_face, definition::specs::Search::tangent_square))]
     #[inline(always)]
-    fn step(&self, target: Point, s: f64) -> Step<f64> {
+    fn step(&self, s: f64) -> Step<f64> {
         let f = elements::face_reference(self.local_face, s);
         let g = mapping::frame_at(self.element, f.into());
         let d = mapping::face_tangent(g.jacobian, f);
@@ -61,7 +69,8 @@ impl<'a> Search for FaceSearch<'a> {
         if square <= EPSILON {
             return Step::Stay;
         }
-        let next = next_s(d, square, g.point.x - target.x, g.point.y - target.y, s);
+        let Point { x, y } = self.target;
+        let next = next_s(d, square, g.point.x - x, g.point.y - y, s);
         if steps::within(next - s, EPSILON) {
             Step::Last(next)
         } else {
@@ -78,7 +87,7 @@ impl<'a> Search for FaceSearch<'a> {
 }
 
 // The search of a face whose root is left to the caller. Not inlined, as that of an element.
-// Kept: one search's call, with seeds of its own; what the two share is `searching::best`, and a struct of an element and a target for these calls is no plainer.
+// Kept: one search's call, with seeds of its own; what the two share is `searching::best`. An element and a target are two values of the definition, of which the search is made here.
 #[inline(never)]
 #[tactic(auto, unfolding(std::specs::Prelude::from_bits, definition::specs::Search::face_best, definition::specs::Search::face_seeds))]
 pub fn face_best(e: &GatheredElement, local_face: u8, target: Point, limit: usize) -> Best<f64>
@@ -87,12 +96,13 @@ pub fn face_best(e: &GatheredElement, local_face: u8, target: Point, limit: usiz
     let search = FaceSearch {
         element: e,
         local_face,
+        target,
     };
-    searching::best(&search, target, limit, MIDDLE, &SEEDS)
+    searching::best(&search, limit, MIDDLE, &SEEDS)
 }
 
 // Where the target is nearest on face `local_face` of element `element_index`, by at most `max_iterations` steps a seed.
-// Kept: a projection has fields of its own, which a generic function would still need named, and is no plainer; nor is a struct of an element and a target for these calls.
+// Kept: a projection has fields of its own, which a generic function would still need named, and is no plainer; an element and a target are two values of the definition.
 #[tactic(auto, unfolding(definition::specs::Search::closest_face_point))]
 pub fn closest_face_point(
     e: &GatheredElement,

@@ -9,19 +9,24 @@ ghost use Rattle.search.specs.Steps.{Remembered};
 
 use definition::{Best, Point, Step};
 
-// What is searched: its places, the point of each, and the step from each.
+// What is searched: its places, the point of each, the target, and the step from each.
 pub trait Search {
     type At: Copy;
 
     ghost point_of: { Self → Self.At → Point };
 
-    ghost step: { Self → Point → Self.At → Step Self.At };
+    ghost target: { Self → Point };
+
+    ghost step: { Self → Self.At → Step Self.At };
 
     fn point(&self, at: Self::At) -> Point
         ensures { result ≡ point_of self.now at };
 
-    fn step(&self, target: Point, at: Self::At) -> Step<Self::At>
-        ensures { result ≡ step self.now target at };
+    fn target(&self) -> Point
+        ensures { result ≡ target self.now };
+
+    fn step(&self, at: Self::At) -> Step<Self::At>
+        ensures { result ≡ step self.now at };
 
     // Whether two places have the same bits.
     fn is_same(a: Self::At, b: Self::At) -> bool
@@ -43,12 +48,13 @@ struct End<A> {
 }
 
 // The place at a reference or a coordinate: its point, and the squared distance from the target.
-// Kept: the search, the target and a place, as the definition has them; a struct for them is no plainer, nor is a trait for this and a node's place.
+// Kept: a search and one of its places, as `point` and `step` take them; a trait for this and a node's place is no plainer.
 #[tactic(auto, unfolding(definition::specs::Search::placed))]
 #[inline(always)]
-pub fn place<S: Search>(search: &S, target: Point, at: S::At) -> Best<S::At>
-    ensures { result ≡ placed (S.point_of search.now) target at }
+pub fn place<S: Search>(search: &S, at: S::At) -> Best<S::At>
+    ensures { result ≡ placed (S.point_of search.now) (S.target search.now) at }
 {
+    let target = search.target();
     let point = search.point(at);
     let square = binary64::squared_distance(point.x, point.y, target.x, target.y);
     Best { at, point, square }
@@ -74,17 +80,17 @@ pub fn nearest<A: Copy>(first: Best<A>, places: &[Best<A>]) -> Best<A>
 }
 
 // The best so far, or the place where that is nearer. The best's own place is not, and is not worked out again.
-// Kept: the search, the target and a place, as the definition has them; a struct for them is no plainer.
+// Kept: a search and one of its places, as `point` and `step` take them.
 #[tactic(auto, using(crate::proofs::Tried::met))]
 #[inline(always)]
-fn better<S: Search>(search: &S, target: Point, best: Best<S::At>, at: S::At) -> Best<S::At>
-    requires { best ≡ placed (S.point_of search.now) target best.at }
-    ensures { result ≡ nearer best (placed (S.point_of search.now) target at) }
+fn better<S: Search>(search: &S, best: Best<S::At>, at: S::At) -> Best<S::At>
+    requires { best ≡ placed (S.point_of search.now) (S.target search.now) best.at }
+    ensures { result ≡ nearer best (placed (S.point_of search.now) (S.target search.now) at) }
 {
     if S::is_same(at, best.at) {
         return best;
     }
-    nearer(best, place(search, target, at))
+    nearer(best, place(search, at))
 }
 
 // Where the steps from a place end, if the step from it is the one that is known.
@@ -98,26 +104,25 @@ fn known_end<S: Search>(known: Option<LastStep<S::At>>, at: S::At) -> Option<S::
 }
 
 // At most `limit` steps from a place. Most seeds come to the same corner of a distant element and end there: the step from it is made for the first of them.
-// Kept: the search, the target and a place, as the definition has them; a struct for them is no plainer.
+// Kept: a search and one of its places, as `point` and `step` take them.
 #[tactic(auto, using(crate::proofs::Ends::on, crate::proofs::Ends::stays, crate::proofs::Ends::lasts))]
 #[inline(always)]
 fn walk<S: Search>(
     search: &S,
-    target: Point,
     limit: usize,
     mut at: S::At,
     mut known: Option<LastStep<S::At>>,
 ) -> End<S::At>
-    requires { Remembered (S.step search.now target) known }
-    ensures at_value { result.at ≡ walked (S.step search.now target) limit at }
-    ensures remembered { Remembered (S.step search.now target) result.known }
+    requires { Remembered (S.step search.now) known }
+    ensures at_value { result.at ≡ walked (S.step search.now) limit at }
+    ensures remembered { Remembered (S.step search.now) result.known }
 {
     for made in 0..limit {
         if let Some(to) = known_end::<S>(known, at) {
             at = to;
             break;
         }
-        match search.step(target, at) {
+        match search.step(at) {
             Step::Stay => {
                 known = Some(LastStep { from: at, to: at });
                 break;
@@ -136,21 +141,15 @@ fn walk<S: Search>(
 // The best of the first place and of the ends of the seeds' steps, at most `limit` steps a seed.
 #[tactic(auto, using(crate::proofs::Tried::begun, crate::proofs::Tried::next, crate::proofs::Tried::own_place))]
 #[inline(always)]
-pub fn best<S: Search>(
-    search: &S,
-    target: Point,
-    limit: usize,
-    start: S::At,
-    seeds: &[S::At],
-) -> Best<S::At>
-    ensures { result ≡ best_of (S.point_of search.now) (S.step search.now target) target limit start seeds.now (length seeds.now) }
+pub fn best<S: Search>(search: &S, limit: usize, start: S::At, seeds: &[S::At]) -> Best<S::At>
+    ensures { result ≡ best_of (S.point_of search.now) (S.step search.now) (S.target search.now) limit start seeds.now (length seeds.now) }
 {
-    let mut best = place(search, target, start);
+    let mut best = place(search, start);
     let mut known = None;
     for seed in seeds {
-        let end = walk(search, target, limit, *seed, known);
+        let end = walk(search, limit, *seed, known);
         known = end.known;
-        best = better(search, target, best, end.at);
+        best = better(search, best, end.at);
     }
     best
 }

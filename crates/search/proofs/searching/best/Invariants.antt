@@ -6,5 +6,5 @@ use Rattle.search.proofs.searching.best.Given as goal
 
 abbrev pub invariant-loop-seed : goal.invariant-loop-seed
 invariant-loop-seed g l =
-    let step = g.S.Search.step l.search l.target in
-    record { best_so_far : l.best ≡ best_of (g.S.Search.point_of l.search) step l.target l.limit l.fn.start l.seeds l.seed-index; remembered : Remembered step l.known }
+    let step = g.S.Search.step l.search in
+    record { best_so_far : l.best ≡ best_of (g.S.Search.point_of l.search) step (g.S.Search.target l.search) l.limit l.fn.start l.seeds l.seed-index; remembered : Remembered step l.known }

@@ -7,7 +7,7 @@ use Rattle.search.proofs.searching.walk.Goals.{else-loop-made-test, then-loop-ma
 pub returns-clause-at_value : goal.returns-clause-at_value
 returns-clause-at_value g c =
     let l = c.loop-made in
-    let step = g.S.Search.step c.args.search.now c.args.target in
+    let step = g.S.Search.step c.args.search.now in
     elim c.loop-made-test.branch [
       | else-loop-made-test w ↦ w.at-is ∙ all_made step c.args.limit l.made l.at w.loop-made-test.false l.invariant.same_end
       | then-loop-made-test+in-Some w ↦ w.at-is ∙ left_at step c.args.limit l.made l.at w.loop-made-test.true (known_ends step l.at w.in-Some.ensures l.invariant.remembered) l.invariant.same_end

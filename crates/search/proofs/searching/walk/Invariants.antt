@@ -7,5 +7,5 @@ use Rattle.search.proofs.searching.walk.Given as goal
 
 abbrev pub invariant-loop-made : goal.invariant-loop-made
 invariant-loop-made g l =
-    let step = g.S.Search.step l.search l.target in
+    let step = g.S.Search.step l.search in
     record { same_end : walked step (l.limit - l.made) l.at ≡ walked step l.limit l.initial.at; remembered : Remembered step l.known }
