@@ -52,6 +52,8 @@ JUDGED = {
     (2, "materials", "put_stress_values"): "one row, and the four rows",
     (2, "operator_questions", "mesh_questions"): "two parts of a call's questions, each with its own",
     (2, "operator_questions", "number_questions"): "two parts of a call's questions, each with its own",
+    (2, "listing", "Page"): "bytes in one list, and triplets in three",
+    (2, "triplets", "Strip"): "bytes in one list, and triplets in three",
     (2, "triplets", "TripletLists"): "the lent lists, and the arrays of a program that lends them",
     (4, "materials", "copy_material"): "an array of a list of any length, made by the library",
     (4, "records", "has_room"): "a question by kind, no conversion",

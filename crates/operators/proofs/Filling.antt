@@ -17,7 +17,7 @@ use Rattle.definition.specs.Operators.{InterpolationCall, element_at}
 use Rattle.definition.specs.Rows.{Triplet, kept, point_triplets}
 use Rattle.definition.proofs.Lists.{each_same, each_length, each_at, values_length, values_at, over_at}
 use Rattle.lists.proofs.Parts.{part_fits}
-use Rattle.triplets.specs.declared.lent.TripletLists.{TripletLists}
+use Rattle.triplets.specs.declared.lent.Strip.{Strip}
 use Rattle.triplets.specs.Lent.{Puts}
 use Rattle.triplets.proofs.Putting.{puts_each}
 use Rattle.operators.specs.Values.{values_of, triplets_till}
@@ -55,9 +55,9 @@ entries_are k c F p node value old =
 -- ---- triplets whose values were read from a part that begins at place s of a list, by their places in the list
 
 -- those of a node
-pub node_part : (c s : ℕ) (entries : List Float) → s + c ≤ length entries → (row node : ℕ) {u v : TripletLists} {at next : ℕ} →
-    (let part = take c (take (length entries - s) (drop s entries)) in Puts (each (λ d. kept row (length part * node + d) (get_or part d nan)) (length part)) u at v next) →
-    Puts (each (λ d. kept row (c * node + d) (get_or entries (s + d) nan)) c) u at v next
+pub node_part : (c s : ℕ) (entries : List Float) → s + c ≤ length entries → (row node : ℕ) {u v : Strip} →
+    (let part = take c (take (length entries - s) (drop s entries)) in Puts u v (each (λ d. kept row (length part * node + d) (get_or part d nan)) (length part))) →
+    Puts u v (each (λ d. kept row (c * node + d) (get_or entries (s + d) nan)) c)
 node_part c s entries fits row node put =
     let whole : length (take c (drop s entries)) ≡ c = length-take-le c (drop s entries) (rw length-drop (omega (arith, fits))) in
     let same : each (λ d. kept row (c * node + d) (get_or (take c (drop s entries)) d nan)) c ≡ each (λ d. kept row (c * node + d) (get_or entries (s + d) nan)) c =
@@ -65,20 +65,20 @@ node_part c s entries fits row node put =
     rw (take_rest entries s, whole, same) at put
 
 -- those of a row
-pub row_part : (c F : ℕ) (node : ℕ → ℕ) (s : ℕ) (entries : List Float) (row : ℕ) {u v : TripletLists} {at next : ℕ} →
-    Puts (each (λ j. each (λ d. kept row (c * node j + d) (get_or (take (length entries - s) (drop s entries)) (c * j + d) nan)) c) F) u at v next →
-    Puts (each (λ j. each (λ d. kept row (c * node j + d) (get_or entries (s + c * j + d) nan)) c) F) u at v next
+pub row_part : (c F : ℕ) (node : ℕ → ℕ) (s : ℕ) (entries : List Float) (row : ℕ) {u v : Strip} →
+    Puts u v (each (λ j. each (λ d. kept row (c * node j + d) (get_or (take (length entries - s) (drop s entries)) (c * j + d) nan)) c) F) →
+    Puts u v (each (λ j. each (λ d. kept row (c * node j + d) (get_or entries (s + c * j + d) nan)) c) F)
 row_part c F node s entries row put =
     let same : each (λ j. each (λ d. kept row (c * node j + d) (get_or (drop s entries) (c * j + d) nan)) c) F ≡ each (λ j. each (λ d. kept row (c * node j + d) (get_or entries (s + c * j + d) nan)) c) F =
     each_same (λ j a. each_same (λ d b. ap (kept row (c * node j + d)) (rw (add_assoc s (c * j) d) (get_or-drop s entries (c * j + d) nan)))) in
     rw (take_rest entries s, same) at put
 
 -- the triplets of one point more
-pub point_next : (q : InterpolationCall) (k c : ℕ) (value : ℕ → ℕ → ℕ → ℕ → Float) (p : ℕ) {F : ℕ} {nodes : List ℕ} {entries : List Float} (old : List Float) {u v w : TripletLists} {at next last : ℕ} →
+pub point_next : (q : InterpolationCall) (k c : ℕ) (value : ℕ → ℕ → ℕ → ℕ → Float) (p : ℕ) {F : ℕ} {nodes : List ℕ} {entries : List Float} (old : List Float) {u v w : Strip} →
     F ≡ nodes_of q.mesh.family → nodes ≡ element_nodes q.mesh (element_at q p) → entries ≡ over (values_of k c (nodes_of q.mesh.family) (value p)) old →
-    Puts (triplets_till q k c value p) u at v next →
-    Puts (point_triplets k c F (λ j. get_or nodes j 0) (λ i j d. get_or entries (c * F * i + c * j + d) nan) p) v next w last →
-    Puts (triplets_till q k c value (p + 1)) u at w last
+    Puts u v (triplets_till q k c value p) →
+    Puts v w (point_triplets k c F (λ j. get_or nodes j 0) (λ i j d. get_or entries (c * F * i + c * j + d) nan) p) →
+    Puts u w (triplets_till q k c value (p + 1))
 point_next q k c value p old count row entries_is before put =
     puts_each _ p before
     (rw (count, row, entries_is, entries_are k c (nodes_of q.mesh.family) p (λ j. get_or (element_nodes q.mesh (element_at q p)) j 0) (value p) old) at put)

@@ -14,7 +14,7 @@ ghost use Rattle.operators.specs.Values.{values_of, triplets_till};
 
 use calls::InterpolationCall;
 use definition::{OperatorCounts, Refusal};
-use triplets::TripletLists;
+use triplets::{Strip, TripletLists};
 
 // An operator of a call, of ROWS rows a point and COLUMNS columns a node: what the definition says of it, and what the code does for one point.
 pub trait Operator<const ROWS: usize, const COLUMNS: usize> {
@@ -49,19 +49,17 @@ pub trait Operator<const ROWS: usize, const COLUMNS: usize> {
 // The numbers of rows and of columns are constants of each operator, which the compiler knows where these functions are inlined.
 
 // The triplets of one node in one row, from its entries: one a displacement component.
-// Kept: the entries and the place are others at each call, so a struct for them and the lists would be made anew each time, and is no plainer.
+// Kept: the entries are others at each call, so a struct for them and the strip would be made anew each time, and is no plainer.
 #[inline(always)]
 #[tactic(auto, using(crate::proofs::Numbers::column_fits, triplets::proofs::Putting::puts_none), unfolding(definition::specs::Lists::each))]
-fn put_node(row: usize, node: usize, entries: &[f64], lent: &mut TripletLists, at: usize) -> usize
+fn put_node(row: usize, node: usize, entries: &[f64], strip: &mut Strip)
     requires { (node < 2 ^ 32) × (length entries.now ≤ 2) }
-    ensures { Puts (each (λ d. kept row (length entries.now * node + d) (get_or entries.now d nan)) (length entries.now)) lent.old at lent.new result }
+    ensures { Puts strip.old strip.new (each (λ d. kept row (length entries.now * node + d) (get_or entries.now d nan)) (length entries.now)) }
 {
     let first = entries.len() * node;
-    let mut next = at;
     for (d, value) in entries.iter().enumerate() {
-        next = lent.put_triplet(row, first + d, *value, next);
+        strip.put_triplet(row, first + d, *value);
     }
-    next
 }
 
 // The triplets of one row, from its entries: `columns` a node, the element's nodes one after the other.
@@ -74,19 +72,16 @@ fn put_row(
     nodes: &[u32],
     columns: usize,
     entries: &[f64],
-    lent: &mut TripletLists,
-    at: usize,
-) -> usize
+    strip: &mut Strip,
+)
     requires { (count ≤ 9) × (columns ≤ 2) × (columns * count ≤ length entries.now) }
-    ensures { Puts (each (λ j. each (λ d. kept row (columns * get_or nodes.now j 0 + d) (get_or entries.now (columns * j + d) nan)) columns) count)
-        lent.old at lent.new result }
+    ensures { Puts strip.old strip.new
+        (each (λ j. each (λ d. kept row (columns * get_or nodes.now j 0 + d) (get_or entries.now (columns * j + d) nan)) columns) count) }
 {
-    let mut next = at;
     for j in 0..count {
         let node = lists::get_or(nodes, j, 0) as usize;
-        next = put_node(row, node, &entries[columns * j..][..columns], lent, next);
+        put_node(row, node, &entries[columns * j..][..columns], strip);
     }
-    next
 }
 
 // The rows of point p. The entries stand in the triplets' order: component, local node, displacement component.
@@ -100,28 +95,24 @@ fn put_point(
     nodes: &[u32],
     columns: usize,
     entries: &[f64],
-    lent: &mut TripletLists,
-    at: usize,
-) -> usize
+    strip: &mut Strip,
+)
     requires { (rows ≤ 4) × (count ≤ 9) × (columns ≤ 2) × (columns * count * rows ≤ length entries.now) }
-    ensures { Puts (point_triplets rows columns count (λ j. get_or nodes.now j 0) (λ i j d. get_or entries.now (columns * count * i + columns * j + d) nan) p)
-        lent.old at lent.new result }
+    ensures { Puts strip.old strip.new
+        (point_triplets rows columns count (λ j. get_or nodes.now j 0) (λ i j d. get_or entries.now (columns * count * i + columns * j + d) nan) p) }
 {
     let first = rows * p as usize;
     let width = columns * count;
-    let mut next = at;
     for i in 0..rows {
-        next = put_row(
+        put_row(
             first + i,
             count,
             nodes,
             columns,
             &entries[width * i..],
-            lent,
-            next,
+            strip,
         );
     }
-    next
 }
 
 // ---- the triplets of all points
@@ -133,19 +124,20 @@ fn put_points<const ROWS: usize, const COLUMNS: usize, O: Operator<ROWS, COLUMNS
     lent: &mut TripletLists,
 ) -> usize
     requires { length (O.base operator.now).element_indices ≤ 1000000 }
-    ensures { let q = O.base operator.now in Puts (triplets_till q ROWS COLUMNS (O.value operator.now) (length q.element_indices)) lent.old 0 lent.new result }
+    ensures { let q = O.base operator.now in Puts (record { lists = lent.entry; at = 0 }) (record { lists = lent.exit; at = result })
+        (triplets_till q ROWS COLUMNS (O.value operator.now) (length q.element_indices)) }
 {
     let call = operator.base();
     let mesh = call.mesh();
     let count = mesh.nodes_per_element();
     let mut entries = [0.0; 72];
-    let mut at: usize = 0;
+    let mut strip = Strip { lists: lent, at: 0 };
     for p in 0..call.num_points() {
         operator.put_values(p, &mut entries);
         let nodes = mesh.element_nodes(call.element_at(p));
-        at = put_point(p as u32, ROWS, count, nodes, COLUMNS, &entries, lent, at);
+        put_point(p as u32, ROWS, count, nodes, COLUMNS, &entries, &mut strip);
     }
-    at
+    strip.at
 }
 
 // ---- an operator

@@ -5,3 +5,10 @@ pub struct TripletLists<'a> {
     pub columns: &'a mut [usize],
     pub values: &'a mut [f64],
 }
+
+// The three lent lists, and the place of the next triplet.
+#[derive(Drop)]
+pub struct Strip<'l, 'a> {
+    pub lists: &'l mut TripletLists<'a>,
+    pub at: usize,
+}

@@ -10,7 +10,7 @@ ghost use Rattle.definition.specs.Operators.{triplet_room};
 ghost use Rattle.definition.specs.Rows.{kept};
 ghost use Rattle.triplets.specs.Lent.{triplet_lists, Puts};
 
-pub use lent::TripletLists;
+pub use lent::{Strip, TripletLists};
 
 impl<'a> TripletLists<'a> {
     // Whether the lists have n places for each of count points.
@@ -21,21 +21,25 @@ impl<'a> TripletLists<'a> {
         let places = n.saturating_mul(count);
         places <= self.rows.len() && places <= self.columns.len() && places <= self.values.len()
     }
+}
 
-    // One triplet, where its value is not 0 of either sign and each list has the place; the place of the next.
+impl Strip<'_, '_> {
+    // One triplet, where its value is not 0 of either sign and each list has the place.
     #[tactic(auto, unfolding(crate::specs::Strip::stored, crate::specs::Strip::written, definition::specs::Rows::kept, std::specs::Prelude::from_bits))]
-    pub fn put_triplet(&mut self, row: usize, column: usize, value: f64, at: usize) -> usize
-        ensures { Puts (kept row column value) self.old at self.new result }
+    pub fn put_triplet(&mut self, row: usize, column: usize, value: f64)
+        ensures { Puts self.old self.new (kept row column value) }
     {
         if value == 0.0 {
-            return at;
+            return;
         }
-        if self.rows.len() <= at || self.columns.len() <= at || self.values.len() <= at {
-            return at;
+        let at = self.at;
+        let lists = &mut *self.lists;
+        if lists.rows.len() <= at || lists.columns.len() <= at || lists.values.len() <= at {
+            return;
         }
-        self.rows[at] = row;
-        self.columns[at] = column;
-        self.values[at] = value;
-        at + 1
+        lists.rows[at] = row;
+        lists.columns[at] = column;
+        lists.values[at] = value;
+        self.at += 1;
     }
 }

@@ -7,4 +7,4 @@ use Rattle.triplets.specs.Lent.{Puts}
 use Rattle.operators.proofs.put_node.Given as goal
 
 abbrev pub invariant-loop-d : goal.invariant-loop-d
-invariant-loop-d l = Puts (each (λ d. kept l.row (length l.entries * l.node + d) (get_or l.entries d nan)) l.d) l.initial.lent l.at l.lent l.next
+invariant-loop-d l = Puts l.initial.strip l.strip (each (λ d. kept l.row (length l.entries * l.node + d) (get_or l.entries d nan)) l.d)

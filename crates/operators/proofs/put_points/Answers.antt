@@ -6,7 +6,7 @@ use Rattle.operators.proofs.put_points.Goals as goal
 
 pub loop-p-init : goal.loop-p-init
 unfolding each
-loop-p-init g c = puts_none _ _
+loop-p-init g c = puts_none _
 
 pub loop-p-preserved : goal.loop-p-preserved
 loop-p-preserved g c =
@@ -15,4 +15,4 @@ loop-p-preserved g c =
     (rw (c.mesh-mesh.ensures, c.element_at.ensures, c.base-call.ensures) at c.element_nodes-nodes.ensures)
     c.put_values.ensures
     c.loop-p.invariant
-    c.put_point-at.ensures
+    c.put_point.ensures

@@ -5,4 +5,4 @@ use Rattle.operators.proofs.put_points.Given as goal
 
 abbrev pub invariant-loop-p : goal.invariant-loop-p
 invariant-loop-p g l =
-    Puts (triplets_till (g.O.Operator.base l.operator) g.row.ROWS g.row.COLUMNS (g.O.Operator.value l.operator) l.p) l.initial.lent 0 l.lent l.at
+    Puts l.initial.strip l.strip (triplets_till (g.O.Operator.base l.operator) g.row.ROWS g.row.COLUMNS (g.O.Operator.value l.operator) l.p)

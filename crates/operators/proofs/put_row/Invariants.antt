@@ -8,4 +8,4 @@ use Rattle.operators.proofs.put_row.Given as goal
 
 abbrev pub invariant-loop-j : goal.invariant-loop-j
 invariant-loop-j l =
-    Puts (each (λ j. each (λ d. kept l.row (l.columns * get_or l.nodes j 0 + d) (get_or l.entries (l.columns * j + d) nan)) l.columns) l.j) l.initial.lent l.at l.lent l.next
+    Puts l.initial.strip l.strip (each (λ j. each (λ d. kept l.row (l.columns * get_or l.nodes j 0 + d) (get_or l.entries (l.columns * j + d) nan)) l.columns) l.j)
