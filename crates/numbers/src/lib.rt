@@ -62,10 +62,10 @@ pub fn yes_of(number: usize) -> bool
     number != 0
 }
 
-// Kept: the three structs are apart (see `QueryNumbers`), and so are their conversions.
 impl From<Result<QueryCounts, Refusal>> for QueryNumbers {
     ghost from_gives = { λ answer n. n ≡ query_numbers (outcome answer) };
 
+    // Kept: the three structs are apart (see `QueryNumbers`), and so are their conversions.
     fn from(answer: Result<QueryCounts, Refusal>) -> QueryNumbers {
         match answer {
             Ok(counts) => QueryNumbers {
@@ -86,10 +86,10 @@ impl From<Result<QueryCounts, Refusal>> for QueryNumbers {
     }
 }
 
-// Kept: the three structs are apart (see `QueryNumbers`), and so are their conversions.
 impl From<Result<OperatorCounts, Refusal>> for OperatorNumbers {
     ghost from_gives = { λ answer n. n ≡ operator_numbers (outcome answer) };
 
+    // Kept: the three structs are apart (see `QueryNumbers`), and so are their conversions.
     fn from(answer: Result<OperatorCounts, Refusal>) -> OperatorNumbers {
         match answer {
             Ok(counts) => OperatorNumbers {
@@ -110,10 +110,10 @@ impl From<Result<OperatorCounts, Refusal>> for OperatorNumbers {
     }
 }
 
-// Kept: the three structs are apart (see `QueryNumbers`), and so are their conversions.
 impl From<Result<usize, Refusal>> for JobNumbers {
     ghost from_gives = { λ answer n. n ≡ job_numbers (outcome answer) };
 
+    // Kept: the three structs are apart (see `QueryNumbers`), and so are their conversions.
     fn from(answer: Result<usize, Refusal>) -> JobNumbers {
         match answer {
             Ok(bytes) => JobNumbers {
