@@ -15,9 +15,6 @@ returns-in_err-ask-clause-promise g c =
     let p = err_from_is_err_and c.from_residual.result c.from_residual.ensures.1 in
     rw (p.1, p.2) (refused_kept (operator_of (o.base x) (o.questions x lent) g.row.ROWS g.row.COLUMNS (o.value x)) lent _ c.in_err-ask.ensures)
 
-pub put_points-triplets-requires : goal.put_points-triplets-requires
-put_points-triplets-requires g c = (g.met.O.Operator.passed c.args.operator.now (triplet_lists c.args.lent.now) c.in_ok-ask.ensures).0
-
 pub returns-clause-promise : goal.returns-clause-promise
 unfolding operator_of
 returns-clause-promise g c =
