@@ -66,7 +66,6 @@ JUDGED = {
     (6, "materials", "put_stress_values"): "a material, the strains and the stresses, which are no parallel lists",
     (6, "listing", "Page"): "the struct that holds the two together",
     (6, "query", "query_answer"): "the count is of the points",
-    (6, "rows", "put_pairs"): "a place of the lent array, no length of the lists",
 }
 
 # Crates whose proofs are theorems for their own sake, and the lemmas of theirs that are none.

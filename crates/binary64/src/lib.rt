@@ -21,7 +21,7 @@ pub fn squared_distance(ax: f64, ay: f64, bx: f64, by: f64) -> f64
 }
 
 // Within [-1, 1], and -1 for NaN.
-// Kept: `max` and then `min` is no plainer, since a reader has to know what they make of NaN, and a search of ten steps and more takes 3 to 5 percent longer by it.
+// Kept: `f64::clamp` leaves a NaN, and of `max` and then `min` a reader has to know what they make of it, so that they are no plainer.
 pub fn clamp(x: f64) -> f64
     ensures { result ≡ clamp_of x }
 {

@@ -1,4 +1,4 @@
--- What joined lists, lists written over and a test of every number come to at one place: by induction on the count, and by the library's laws of appended lists. Assumes nothing.
+-- What joined lists, lists written over, lists taken up entry by entry and a test of every number come to at one place: by induction on the count, and by the library's laws of appended lists. Assumes nothing.
 use mathlib.Core.Path.{◌≡◌, refl, sym, ap, ap₂, ◌∙◌}
 use mathlib.Core.Logic.{inl, inr}
 use mathlib.Core.Bool.{Bool, true, false, ◌&&◌}

@@ -53,7 +53,7 @@ impl<'c, 'a> Operator<1, 1> for Interpolation<'c, 'a> {
 }
 
 // The interpolation operator: one row a point, one column a node, and the shape numbers as values.
-// Kept: one line over `operators::build`, which the three operators share, with a promise of its own.
+// Kept: one line over `operators::build`, with a promise of its own; one function for the three would be `build` itself.
 // Kept: that the lists are the same ones is a fact of two values, which no field and no model of one value can hold: a record over the two is the plainest.
 #[tactic(auto, unfolding(definition::specs::Operators::interpolation))]
 pub fn quad_mesh_interpolation_operator(

@@ -20,7 +20,7 @@ pub struct Page<'a> {
 
 impl Page<'_> {
     // One byte, where there is room.
-    // Kept: this and the printing below are by hand, since a contract knows what `write!` prints only of a `String`, which is on the heap.
+    // Kept: this and the printing below are by hand: a contract knows what `write!` has printed only where it answers `Ok`, and nothing says that it does. These calls cannot fail.
     #[tactic(auto, unfolding(crate::specs::Page::stored, crate::specs::Page::typed))]
     fn put_byte(&mut self, b: u8)
         ensures { Puts self.old self.new (b ∷ []) }

@@ -1,4 +1,4 @@
-// What a place of a lent list holds, and where a part of a list lies. It knows the definition and lengths; nothing of what a list is for.
+// What a place of a lent list holds, and where a part of a list lies. It knows the definition and lengths; of what a list is for, no more than the order of a point's values (specs/, and Values of proofs/).
 // Every call has an answer for every number: past a list's end a float is NaN, as the definition reads it, and a part ends with the list.
 #![tactic(auto)]
 

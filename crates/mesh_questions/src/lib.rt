@@ -27,7 +27,7 @@ pub fn connectivity_question(mesh: &QuadMesh) -> Result<(), Refusal>
 {
     let node_count = mesh.num_nodes();
     let mut answer = Ok(());
-    // Kept: a rule of the project: the walk over elements and their nodes is left from the inner loop, by its label, at the first bad number.
+    // Kept: document 01's form (docs/DECISIONS.md): the walk over elements and their nodes is left from the inner loop, by its label, at the first bad number.
     'walk: for element_index in 0..mesh.num_elements() {
         for node in mesh.element_nodes(element_index) {
             if node_count <= *node as usize {

@@ -50,7 +50,7 @@ pub trait Operator<const ROWS: usize, const COLUMNS: usize> {
 // The numbers of rows and of columns are constants of each operator, which the compiler knows where these functions are inlined.
 
 // The triplets of one node in one row, from its entries: one a displacement component.
-// Kept: the entries are others at each call, so a struct for them and the strip would be made anew each time, and is no plainer.
+// Kept: each call has entries of its own, so a struct for them and the strip would be made anew each time, and is no plainer.
 #[inline(always)]
 #[tactic(auto, using(crate::proofs::Numbers::column_fits, triplets::proofs::Putting::puts_none), unfolding(definition::specs::Lists::each))]
 fn put_node(row: usize, node: usize, entries: &[f64], strip: &mut Strip)

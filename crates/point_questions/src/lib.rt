@@ -15,7 +15,7 @@ use definition::Refusal;
 pub use points::element_question;
 
 // Question 14 of each point.
-// Kept: one line over `walk::each_point`, which the three share; each names its call and its questions.
+// Kept: one line over `walk::each_point`, with a call and questions of its own; one function for the three would be `each_point` itself.
 pub fn interpolation_point_questions(call: &InterpolationCall) -> Result<(), Refusal>
     ensures { outcome result ≡ asked (each_point call.now (interpolation_asked call.now)) tt }
 {
@@ -25,7 +25,7 @@ pub fn interpolation_point_questions(call: &InterpolationCall) -> Result<(), Ref
 }
 
 // Questions 14, 16 and 17 of each point.
-// Kept: one line over `walk::each_point`, which the three share; each names its call and its questions.
+// Kept: one line over `walk::each_point`, with a call and questions of its own; one function for the three would be `each_point` itself.
 pub fn strain_point_questions(call: &StrainCall) -> Result<(), Refusal>
     ensures { outcome result ≡ asked (each_point call.now.base (strain_asked call.now)) tt }
 {
@@ -35,7 +35,7 @@ pub fn strain_point_questions(call: &StrainCall) -> Result<(), Refusal>
 }
 
 // Questions 14, 15, 16 and 17 of each point.
-// Kept: one line over `walk::each_point`, which the three share; each names its call and its questions.
+// Kept: one line over `walk::each_point`, with a call and questions of its own; one function for the three would be `each_point` itself.
 pub fn stress_point_questions(call: &StressCall) -> Result<(), Refusal>
     ensures { outcome result ≡ asked (each_point call.now.base (stress_asked call.now)) tt }
 {

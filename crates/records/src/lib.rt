@@ -16,7 +16,7 @@ use std::marker::Model;
 // ---- one record
 
 // The record at a place of a job's bytes.
-// Kept: a place beside the bytes, in which the definition reads a record there; a slice from the place on would need both as ghost members, and is no plainer.
+// Kept: the bytes and a place in them, as the definition reads a record; a slice from the place on would need both as ghost members, and is no plainer.
 #[derive(Drop)]
 struct Record<'a> {
     bytes: &'a [u8],

@@ -59,6 +59,7 @@ fn hoop_at(
 // ---- the rows
 
 // One component's row, two numbers a node, from a place on.
+// Kept: the output and a place in it: with a slice from the place on, the proof needs laws of its own of what stands before it, which is no plainer.
 fn put_pairs(first: &[f64], second: &[f64], at: usize, out: &mut [f64])
     requires alike { length second.now ≡ length first.now }
     requires room { at + 2 * length first.now ≤ length out.old }

@@ -150,7 +150,7 @@ impl<'a> Search for ElementSearch<'a> {
 }
 
 // The search of an element whose root is left to the caller, for whom the squared distance may be enough. Not inlined: in a larger function the step has fewer registers.
-// Kept: one search's call, with seeds of its own; what the two share is `searching::best`. An element and a target are two values of the definition, of which the search is made here.
+// Kept: one search's call, with seeds of its own; what the two share is `searching::best`. An element and a target are two values of the definition, of which the search is made here; a caller that made it would know what a step is.
 #[inline(never)]
 #[tactic(auto, unfolding(std::specs::Prelude::from_bits, definition::specs::Search::element_best, definition::specs::Search::element_seeds))]
 pub fn element_best(e: &GatheredElement, target: Point, limit: usize) -> Best<Reference>

@@ -87,7 +87,7 @@ impl<'a> Search for FaceSearch<'a> {
 }
 
 // The search of a face whose root is left to the caller. Not inlined, as that of an element.
-// Kept: one search's call, with seeds of its own; what the two share is `searching::best`. An element and a target are two values of the definition, of which the search is made here.
+// Kept: one search's call, with seeds of its own; what the two share is `searching::best`. An element and a target are two values of the definition, of which the search is made here; a caller that made it would know what a step is.
 #[inline(never)]
 #[tactic(auto, unfolding(std::specs::Prelude::from_bits, definition::specs::Search::face_best, definition::specs::Search::face_seeds))]
 pub fn face_best(e: &GatheredElement, local_face: u8, target: Point, limit: usize) -> Best<f64>

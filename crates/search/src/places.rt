@@ -20,7 +20,7 @@ pub struct ElementBests {
 }
 
 // The places of the seeds of an element.
-// Kept: nine lines for `SEEDS.map(|r| searching::place(search, r))`, by which the benchmark's queries at limit 0 execute twice as many instructions: 11.1 million against 5.3 in family 4, 16.5 against 8.3 in family 9.
+// Kept: nine lines for `SEEDS.map(|r| searching::place(search, r))`, by which a query at limit 0 takes 1.10 times as long as the Rust in family 4 and 0.79 times in family 9, in place of 0.46 and 0.36.
 #[tactic(auto, unfolding(std::specs::Prelude::from_bits, definition::specs::Search::element_seeds))]
 #[inline(always)]
 fn seed_places(search: &ElementSearch) -> [Best<Reference>; 9]
@@ -66,7 +66,7 @@ fn nearest_on_face(
 }
 
 // The searches of an element and its faces, without a step. The ends and middles of the faces are among the seeds of the element, and are worked out once; only the middles of faces 2 and 3 have a -0, where N has zeros of the other sign.
-// Kept: an element and a target are two values of the definition, of which the search is made here.
+// Kept: an element and a target are two values of the definition, of which the search is made here; a caller that made it would know what a step is.
 pub fn seed_bests(e: &GatheredElement, target: Point) -> ElementBests
     ensures element { result.element ≡ element_best e.now target 0 }
     ensures faces { result.faces ≡ face_best e.now 0 target 0 ∷ face_best e.now 1 target 0 ∷ face_best e.now 2 target 0 ∷ face_best e.now 3 target 0 ∷ [] }
@@ -94,7 +94,7 @@ pub fn seed_bests(e: &GatheredElement, target: Point) -> ElementBests
 }
 
 // The searches of an element and its faces, by at most `limit` steps a seed.
-// Kept: an element and a target are two values of the definition, of which the calls below make their searches.
+// Kept: an element and a target are two values of the definition, of which the calls below make their searches; a caller that made them would know what a step is.
 pub fn bests(e: &GatheredElement, target: Point, limit: usize) -> ElementBests
     ensures element { result.element ≡ element_best e.now target limit }
     ensures faces { result.faces ≡ face_best e.now 0 target limit ∷ face_best e.now 1 target limit ∷ face_best e.now 2 target limit ∷ face_best e.now 3 target limit ∷ [] }

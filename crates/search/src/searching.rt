@@ -48,7 +48,7 @@ struct End<A> {
 }
 
 // The place at a reference or a coordinate: its point, and the squared distance from the target.
-// Kept: a search and one of its places, as `point` and `step` take them; a trait for this and a node's place is no plainer.
+// Kept: a search and one of its places, as `point` and `step` take them; a struct of the two would be made anew at each place, and a trait for this and a node's place is no plainer.
 #[tactic(auto, unfolding(definition::specs::Search::placed))]
 #[inline(always)]
 pub fn place<S: Search>(search: &S, at: S::At) -> Best<S::At>
@@ -80,7 +80,7 @@ pub fn nearest<A: Copy>(first: Best<A>, places: &[Best<A>]) -> Best<A>
 }
 
 // The best so far, or the place where that is nearer. The best's own place is not, and is not worked out again.
-// Kept: a search and one of its places, as `point` and `step` take them.
+// Kept: a search and one of its places, as `point` and `step` take them; a struct of the two would be made anew at each step, and is no plainer.
 #[tactic(auto, using(crate::proofs::Tried::met))]
 #[inline(always)]
 fn better<S: Search>(search: &S, best: Best<S::At>, at: S::At) -> Best<S::At>
@@ -104,7 +104,7 @@ fn known_end<S: Search>(known: Option<LastStep<S::At>>, at: S::At) -> Option<S::
 }
 
 // At most `limit` steps from a place. Most seeds come to the same corner of a distant element and end there: the step from it is made for the first of them.
-// Kept: a search and one of its places, as `point` and `step` take them.
+// Kept: a search and one of its places, as `point` and `step` take them; a struct of the two would be made anew at each step, and is no plainer.
 #[tactic(auto, using(crate::proofs::Ends::on, crate::proofs::Ends::stays, crate::proofs::Ends::lasts))]
 #[inline(always)]
 fn walk<S: Search>(

@@ -54,7 +54,7 @@ impl<'c, 'a> Operator<4, 2> for Strain<'c, 'a> {
 }
 
 // The strain operator: four rows a point (rr, zz, tt, rz or xx, yy, zz, xy), and two columns a node.
-// Kept: one line over `operators::build`, which the three operators share, with a promise of its own.
+// Kept: one line over `operators::build`, with a promise of its own; one function for the three would be `build` itself.
 // Kept: that the lists are the same ones is a fact of two values, which no field and no model of one value can hold: a record over the two is the plainest.
 #[tactic(auto, unfolding(definition::specs::Operators::strain))]
 pub fn quad_mesh_strain_operator(

@@ -61,7 +61,7 @@ impl<'c, 'a> Operator<4, 2> for Stress<'c, 'a> {
 }
 
 // The stress operator: material times strain, four rows a point and two columns a node.
-// Kept: one line over `operators::build`, which the three operators share, with a promise of its own.
+// Kept: one line over `operators::build`, with a promise of its own; one function for the three would be `build` itself.
 // Kept: that the lists are the same ones is a fact of two values, which no field and no model of one value can hold: a record over the two is the plainest.
 #[tactic(auto, unfolding(definition::specs::Operators::stress))]
 pub fn quad_mesh_stress_operator(
