@@ -21,8 +21,9 @@ fn main(rt: HostRuntime) -> io::Result<()> {
         if reading::read_full(&rt, &mut head)? < 4 {
             return Ok(());
         }
-        // No stored job has more bytes than the buffer.
-        let len = space.len().min(u32::from_le_bytes(head) as usize);
+        // No stored job has 65,536 bytes or more, so the upper two bytes of its length are 0, and they are not looked at.
+        let [low, high, _, _] = head;
+        let len = usize::from(u16::from_le_bytes([low, high]));
         let n = reading::read_full(&rt, &mut space[..len])?;
         print_listing(&rt, &space[..n])?;
     }
