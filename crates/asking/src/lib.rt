@@ -3,9 +3,9 @@
 #![tactic(auto)]
 
 ghost use Rattle.std.specs.Prelude.{◌≡◌, [], ◌∷◌};
-ghost use Rattle.definition.specs.Questions.{ask, asked, number_of, outcome, whole};
+ghost use Rattle.definition.specs.Questions.{ask, asked, number_of, numbered_outcome, onward, outcome, whole};
 
-use definition::{QuestionKind, Refusal};
+use definition::{NumberedRefusal, QuestionKind, Refusal};
 
 // A question that was answered: where it does not hold, the refusal says which one it was, and its place.
 #[tactic(auto, unfolding(definition::specs::Questions::asked))]
@@ -16,6 +16,25 @@ pub fn ask(holds: bool, question: QuestionKind, place: usize) -> Result<(), Refu
         Ok(())
     } else {
         Err(Refusal { question, place })
+    }
+}
+
+// What was answered so far, and after a pass one question more, by any number: where it does not hold, its number and its place.
+// Kept: a number, as `NumberedRefusal` has it.
+#[tactic(auto, unfolding(definition::specs::Questions::asked))]
+pub fn then(
+    before: Result<(), NumberedRefusal>,
+    holds: bool,
+    question: u8,
+    place: usize,
+) -> Result<(), NumberedRefusal>
+    ensures { numbered_outcome result ≡ onward (numbered_outcome before) (asked (ask question place holds ∷ []) tt) }
+{
+    before?;
+    if holds {
+        Ok(())
+    } else {
+        Err(NumberedRefusal { question, place })
     }
 }
 

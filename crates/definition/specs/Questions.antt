@@ -9,6 +9,7 @@ use Rattle.definition.specs.Mesh.{Mesh, node_count, element_count, pair_count, n
 use Rattle.definition.specs.declared.Reference.{Reference}
 use Rattle.definition.specs.declared.GatheredElement.{GatheredElement}
 use Rattle.definition.specs.declared.Refusal.{Refusal}
+use Rattle.definition.specs.declared.NumberedRefusal.{NumberedRefusal}
 use Rattle.definition.specs.declared.QuestionKind.{QuestionKind}
 use Rattle.definition.specs.declared.QuestionKind.TheVariants.{FamilyKnown, NodesWhole, ElementsWhole, IterationsFew, PointsWhole, MaterialsWhole, Room, NodeNumbers, SomeNode, SomeElement, NumbersMatch, MaterialsMatch, PairsMatch, ElementKnown, MaterialKnown, NotInverted, OffAxis, MarkKnown, HeadFirst, BodyWhole, WithinLimits}
 use Rattle.definition.specs.declared.Structural2dFormulation.{Structural2dFormulation}
@@ -66,6 +67,11 @@ number_of WithinLimits = 21
 abbrev pub outcome : {A : Type 0} → Result A Refusal → Outcome A
 outcome (Ok v) = accepted v
 outcome (Err r) = refused (number_of r.question) r.place
+
+-- the same of a result that names the question by its number
+abbrev pub numbered_outcome : {A : Type 0} → Result A NumberedRefusal → Outcome A
+numbered_outcome (Ok v) = accepted v
+numbered_outcome (Err r) = refused r.question r.place
 
 -- ---- the questions, each with its number and its place
 

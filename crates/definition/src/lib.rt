@@ -1,4 +1,4 @@
-// The plain types that the crates share. specs/ is the written definition and proofs/ what holds it; the two functions here give a question's number, and the reference of a face's place.
+// The plain types that the crates share. specs/ is the written definition and proofs/ what holds it; the functions here give a question's number, a refusal by it, and the reference of a face's place.
 #![tactic(auto)]
 
 ghost use Rattle.std.specs.Prelude.{◌≡◌};
@@ -162,6 +162,25 @@ impl QuestionKind {
 pub struct Refusal {
     pub question: QuestionKind,
     pub place: usize,
+}
+
+// A refusal by a question's number, whichever: a caller's own questions may have numbers that no question here has.
+// Kept: a number, where one of the 21 questions alone would ask more of a caller.
+#[derive(Clone, Copy, Debug, PartialEq, Eq)]
+pub struct NumberedRefusal {
+    pub question: u8,
+    pub place: usize,
+}
+
+impl From<Refusal> for NumberedRefusal {
+    ghost from_gives = { λ r n. n ≡ record { question = number_of r.question; place = r.place } };
+
+    fn from(refusal: Refusal) -> NumberedRefusal {
+        NumberedRefusal {
+            question: refusal.question.number(),
+            place: refusal.place,
+        }
+    }
 }
 
 // The kinds of records of a job file, by their marks: QF, QN, QE, QP, and any other.

@@ -10,6 +10,7 @@ use Rattle.definition.specs.Job.{refusal_line, counts_line, point_line}
 use Rattle.definition.specs.declared.PointAnswer.{PointAnswer}
 use Rattle.definition.specs.declared.QueryCounts.{QueryCounts}
 use Rattle.definition.specs.declared.Refusal.{Refusal}
+use Rattle.definition.specs.declared.NumberedRefusal.{NumberedRefusal}
 
 -- the answer of point p in the lists
 abbrev pub answer_in : QueryLists → ℕ → PointAnswer
@@ -39,3 +40,8 @@ listed_of points l = min points (length l.node_indices)
 abbrev pub answer_listing : Result QueryCounts Refusal → QueryLists → List ℕ
 answer_listing (Ok counts) l = counts_line counts ++ each (λ p. point_line p (answer_in l p)) (listed_of counts.points l)
 answer_listing (Err refusal) l = refusal_line (number_of refusal.question) refusal.place
+
+-- the listing of an answer of which a refusal may have any number
+abbrev pub numbered_listing : Result QueryCounts NumberedRefusal → QueryLists → List ℕ
+numbered_listing (Ok counts) l = answer_listing (Ok counts) l
+numbered_listing (Err refusal) l = refusal_line refusal.question refusal.place

@@ -4,12 +4,13 @@
 ghost use Rattle.std.specs.Prelude.{◌≡◌};
 ghost use Rattle.answers.specs.Lent.{query_lists};
 ghost use Rattle.listing.specs.Page.{Puts};
-ghost use Rattle.listing.specs.Answers.{answer_in, answer_listing};
+ghost use Rattle.listing.specs.Answers.{answer_in, answer_listing, numbered_listing};
 
 use crate::Page;
 use answers::QueryLists;
 use definition::{
-    ElementProjection, FaceProjection, NodeProjection, PointAnswer, QueryCounts, Refusal,
+    ElementProjection, FaceProjection, NodeProjection, NumberedRefusal, PointAnswer, QueryCounts,
+    Refusal,
 };
 
 // The answer of point p in the lists.
@@ -52,6 +53,21 @@ impl Page<'_> {
                 }
             }
             Err(refusal) => self.put_refusal(refusal.question.number(), refusal.place),
+        }
+    }
+
+    // The listing of an answer of which a refusal may have any number, and of its lists.
+    // Kept: `put_byte` says why it prints by hand.
+    pub fn put_numbered_answer(
+        &mut self,
+        answer: Result<QueryCounts, NumberedRefusal>,
+        lists: &QueryLists,
+    )
+        ensures { Puts self.old self.new (numbered_listing answer (query_lists lists.now)) }
+    {
+        match answer {
+            Ok(counts) => self.put_answer(Ok(counts), lists),
+            Err(refusal) => self.put_refusal(refusal.question, refusal.place),
         }
     }
 }

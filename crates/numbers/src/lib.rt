@@ -3,10 +3,10 @@
 #![tactic(auto)]
 
 ghost use Rattle.std.specs.Prelude.{◌≡◌};
-ghost use Rattle.definition.specs.Questions.{outcome};
+ghost use Rattle.definition.specs.Questions.{numbered_outcome, outcome};
 ghost use Rattle.numbers.specs.Numbers.{formulation_of, yes_of, query_numbers, operator_numbers, job_numbers};
 
-use definition::{OperatorCounts, QueryCounts, Refusal, Structural2dFormulation};
+use definition::{NumberedRefusal, OperatorCounts, QueryCounts, Refusal, Structural2dFormulation};
 
 // What a query answers, in numbers: `question` is 0 where it is accepted, and `place` then too; else the three counts are 0.
 // Kept: the C interface reads the question as a number, with the counts beside it. One `Numbers<C>` in place of the three structs cannot be exported: Rattle refuses a struct with type arguments in an exported function's signature (`unsupported-generic-in-c`).
@@ -62,70 +62,91 @@ pub fn yes_of(number: usize) -> bool
     number != 0
 }
 
+// The numbers of a query's answer, of which a refusal may have any number.
+// Kept: the three structs are apart (see `QueryNumbers`), and so are their conversions.
+pub fn query_numbers(answer: Result<QueryCounts, NumberedRefusal>) -> QueryNumbers
+    ensures { result ≡ query_numbers (numbered_outcome answer) }
+{
+    match answer {
+        Ok(counts) => QueryNumbers {
+            question: 0,
+            place: 0,
+            points: counts.points,
+            repeated: counts.repeated,
+            inside: counts.inside,
+        },
+        Err(refusal) => QueryNumbers {
+            question: usize::from(refusal.question),
+            place: refusal.place,
+            points: 0,
+            repeated: 0,
+            inside: 0,
+        },
+    }
+}
+
+// The numbers of an operator's answer, likewise.
+// Kept: as `query_numbers`.
+pub fn operator_numbers(answer: Result<OperatorCounts, NumberedRefusal>) -> OperatorNumbers
+    ensures { result ≡ operator_numbers (numbered_outcome answer) }
+{
+    match answer {
+        Ok(counts) => OperatorNumbers {
+            question: 0,
+            place: 0,
+            rows: counts.rows,
+            columns: counts.columns,
+            triplets: counts.triplets,
+        },
+        Err(refusal) => OperatorNumbers {
+            question: usize::from(refusal.question),
+            place: refusal.place,
+            rows: 0,
+            columns: 0,
+            triplets: 0,
+        },
+    }
+}
+
+// The numbers of a job's answer, likewise.
+// Kept: as `query_numbers`.
+pub fn job_numbers(answer: Result<usize, NumberedRefusal>) -> JobNumbers
+    ensures { result ≡ job_numbers (numbered_outcome answer) }
+{
+    match answer {
+        Ok(bytes) => JobNumbers {
+            question: 0,
+            place: 0,
+            bytes,
+        },
+        Err(refusal) => JobNumbers {
+            question: usize::from(refusal.question),
+            place: refusal.place,
+            bytes: 0,
+        },
+    }
+}
+
 impl From<Result<QueryCounts, Refusal>> for QueryNumbers {
     ghost from_gives = { λ answer n. n ≡ query_numbers (outcome answer) };
 
-    // Kept: the three structs are apart (see `QueryNumbers`), and so are their conversions.
     fn from(answer: Result<QueryCounts, Refusal>) -> QueryNumbers {
-        match answer {
-            Ok(counts) => QueryNumbers {
-                question: 0,
-                place: 0,
-                points: counts.points,
-                repeated: counts.repeated,
-                inside: counts.inside,
-            },
-            Err(refusal) => QueryNumbers {
-                question: usize::from(refusal.question.number()),
-                place: refusal.place,
-                points: 0,
-                repeated: 0,
-                inside: 0,
-            },
-        }
+        query_numbers(answer.map_err(NumberedRefusal::from))
     }
 }
 
 impl From<Result<OperatorCounts, Refusal>> for OperatorNumbers {
     ghost from_gives = { λ answer n. n ≡ operator_numbers (outcome answer) };
 
-    // Kept: the three structs are apart (see `QueryNumbers`), and so are their conversions.
     fn from(answer: Result<OperatorCounts, Refusal>) -> OperatorNumbers {
-        match answer {
-            Ok(counts) => OperatorNumbers {
-                question: 0,
-                place: 0,
-                rows: counts.rows,
-                columns: counts.columns,
-                triplets: counts.triplets,
-            },
-            Err(refusal) => OperatorNumbers {
-                question: usize::from(refusal.question.number()),
-                place: refusal.place,
-                rows: 0,
-                columns: 0,
-                triplets: 0,
-            },
-        }
+        operator_numbers(answer.map_err(NumberedRefusal::from))
     }
 }
 
 impl From<Result<usize, Refusal>> for JobNumbers {
     ghost from_gives = { λ answer n. n ≡ job_numbers (outcome answer) };
 
-    // Kept: the three structs are apart (see `QueryNumbers`), and so are their conversions.
     fn from(answer: Result<usize, Refusal>) -> JobNumbers {
-        match answer {
-            Ok(bytes) => JobNumbers {
-                question: 0,
-                place: 0,
-                bytes,
-            },
-            Err(refusal) => JobNumbers {
-                question: usize::from(refusal.question.number()),
-                place: refusal.place,
-                bytes: 0,
-            },
-        }
+        job_numbers(answer.map_err(NumberedRefusal::from))
     }
 }
