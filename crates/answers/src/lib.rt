@@ -41,7 +41,7 @@ fn put_point(list: &mut [f64], p: usize, point: Point)
 // ---- one point's answer in its places
 
 // The nearest node of point p in its places.
-// Kept: the lists of one kind as parameters, since their clause is an equation of these alone: whoever lends them and no others has it. `QueryLists` has all twelve.
+// Kept: the lists as parameters, for a caller that has these and not all twelve; a struct for each of the three would be made anew at each call, and is no plainer.
 #[inline(always)]
 pub fn store_node(
     p: usize,
@@ -59,7 +59,7 @@ pub fn store_node(
 }
 
 // The nearest element of point p in its places.
-// Kept: the lists of one kind as parameters, since their clause is an equation of these alone: whoever lends them and no others has it. `QueryLists` has all twelve.
+// Kept: the lists as parameters, for a caller that has these and not all twelve; a struct for each of the three would be made anew at each call, and is no plainer.
 #[inline(always)]
 pub fn store_element(
     p: usize,
@@ -84,7 +84,7 @@ pub fn store_element(
 }
 
 // The nearest face of point p in its places.
-// Kept: the lists of one kind as parameters, since their clause is an equation of these alone: whoever lends them and no others has it. `QueryLists` has all twelve.
+// Kept: the lists as parameters, for a caller that has these and not all twelve; a struct for each of the three would be made anew at each call, and is no plainer.
 #[inline(always)]
 pub fn store_face(
     p: usize,
