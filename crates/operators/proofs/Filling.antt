@@ -3,7 +3,7 @@ use mathlib.Core.Path.{◌≡◌, ap, ◌∙◌}
 use mathlib.Core.Bool.{true, false, cond}
 use mathlib.Core.List.{List, [], ◌∷◌}
 use Prim.Native.Nat.{ℕ, ◌+◌, ◌-◌, ◌*◌, ◌≤◌}
-use native.Mathlib.Nat.{add_assoc}
+use native.Mathlib.Nat.{add_assoc, one-mul, mul-zero, add-zero, zero-add}
 use native.Mathlib.Omega.{arith}
 use lib.ListN.{length, get_or, take, drop}
 use Rattle.std.proofs.lemmas.List.{get_or-take, get_or-drop, length-take-le, length-drop, take_rest}
@@ -30,6 +30,15 @@ entries_are : (k c F p : ℕ) (node : ℕ → ℕ) (value : ℕ → ℕ → ℕ 
 unfolding point_triplets
 entries_are k c F p node value old =
     each_same (λ i a. each_same (λ j b. each_same (λ d l. ap (kept (k * p + i) (c * node j + d)) (rw (add_assoc (c * F * i) (c * j) d) (written_at value a b l old)))))
+
+-- one row of one column a node, whose values stand at the nodes' places
+row_values : (F p : ℕ) (node : ℕ → ℕ) (shape : List Float) → point_triplets 1 1 F node (λ i j d. get_or shape (1 * F * i + 1 * j + d) nan) p ≡ point_triplets 1 1 F node (λ i j d. get_or shape j nan) p
+unfolding point_triplets each
+row_values F p node shape = simp (one-mul, mul-zero, add-zero, zero-add)
+
+pub shape_row : (family p : ℕ) (node : ℕ → ℕ) (shape : List Float) {F : ℕ} {u v : Strip} → F ≡ nodes_of family →
+    Puts u v (point_triplets 1 1 F node (λ i j d. get_or shape (1 * F * i + 1 * j + d) nan) p) → Puts u v (point_triplets 1 1 (nodes_of family) node (λ i j d. get_or shape j nan) p)
+shape_row family p node shape count put = rw (count, row_values (nodes_of family) p node shape) at put
 
 -- ---- triplets whose values were read from a part that begins at place s of a list, by their places in the list
 

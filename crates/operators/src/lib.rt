@@ -116,6 +116,32 @@ fn put_point(
     }
 }
 
+// The row of point p in interpolation: one column a node, and the shape numbers as values.
+// Kept: an operator's own width and its own array, which is long enough for any family, so that neither call asks anything of an argument; a struct for a point's nodes would be made anew each time, as at `put_point`.
+pub fn put_shape_row(p: u32, family: usize, nodes: &[u32], shape: &[f64; 9], strip: &mut Strip)
+    ensures { Puts strip.old strip.new
+        (point_triplets 1 1 (nodes_of family) (λ j. get_or nodes.now j 0) (λ i j d. get_or shape.now j nan) p) }
+{
+    let count = elements::nodes_per_element(family);
+    put_point(p, 1, count, nodes, 1, shape, strip);
+}
+
+// The four rows of point p in strain and stress: two columns a node. The entries stand in the triplets' order: component, local node, displacement component.
+// Kept: an operator's own width and its own array, which is long enough for any family, so that neither call asks anything of an argument; a struct for a point's nodes would be made anew each time, as at `put_point`.
+pub fn put_component_rows(
+    p: u32,
+    family: usize,
+    nodes: &[u32],
+    entries: &[f64; 72],
+    strip: &mut Strip,
+)
+    ensures { Puts strip.old strip.new
+        (point_triplets 4 2 (nodes_of family) (λ j. get_or nodes.now j 0) (λ i j d. get_or entries.now (2 * nodes_of family * i + 2 * j + d) nan) p) }
+{
+    let count = elements::nodes_per_element(family);
+    put_point(p, 4, count, nodes, 2, entries, strip);
+}
+
 // ---- the triplets of all points
 
 // The triplets of all points, from the lists' first place on; their number.

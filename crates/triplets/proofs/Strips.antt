@@ -1,23 +1,40 @@
 -- Triplets put one after the other are one list of triplets, and triplets that have room from place 0 on are written over the lists: by the laws of a fold. Assumes nothing.
-use mathlib.Core.Path.{◌≡◌}
-use mathlib.Core.Bool.{true}
+use mathlib.Core.Path.{◌≡◌, refl, ap, ◌∙◌}
+use mathlib.Core.Bool.{true, false, cond, ◌&&◌}
 use mathlib.Core.List.{List, [], ◌∷◌, ◌++◌, map, map-append}
 use Prim.Native.Nat.{ℕ, ◌+◌, ◌≤◌, ◌<◌}
 use native.Mathlib.Omega.{arith}
 use lib.Dec.{ltb}
-use lib.ListN.{length, set, length-append, length-map}
+use lib.ListN.{length, set, length-append, length-map, length-set}
 use borrow.Author.Tests.{lt-ltb}
 use Rattle.std.proofs.lemmas.List.Sums.{fold-append}
 use Rattle.definition.specs.Lists.{each, over}
 use Rattle.definition.specs.Operators.{TripletLists, triplets_over}
 use Rattle.definition.specs.Rows.{Triplet}
 use Rattle.definition.proofs.Lists.{each_more, fold_on, over_length, over_next}
-use Rattle.triplets.specs.Strip.{Strip, stored, written}
+use Rattle.triplets.specs.Strip.{Strip, strip, stored, written}
 
 -- one part more of triplets in parts
 pub written_each : (s : Strip) (g : ℕ → List Triplet) (n : ℕ) {q r : Strip} → q ≡ written s (each g n) → r ≡ written q (g n) → r ≡ written s (each g (n + 1))
 unfolding written
 written_each s g n e h = rw each_more (cc (fold-append stored s (each g n) (g n)))
+
+-- the lists keep their lengths
+abbrev pub lengths : Strip → List ℕ
+lengths s = length s.lists.rows ∷ length s.lists.columns ∷ length s.lists.values ∷ []
+
+stored_keeps : (s : Strip) (t : Triplet) → lengths (stored s t) ≡ lengths s
+unfolding stored
+stored_keeps s t =
+    let l = s.lists in
+    elim (ltb s.at (length l.rows) && ltb s.at (length l.columns) && ltb s.at (length l.values))
+    as (λ b. lengths (cond b (strip (set l.rows s.at t.row) (set l.columns s.at t.column) (set l.values s.at t.value) (s.at + 1)) s) ≡ lengths s)
+    [ true ↦ simp length-set | false ↦ refl ]
+
+pub written_keeps : (s : Strip) (ts : List Triplet) {r : Strip} → r ≡ written s ts → lengths r ≡ lengths s
+unfolding written
+written_keeps s [] e = ap lengths e
+written_keeps s (t ∷ ts) e = written_keeps (stored s t) ts e ∙ stored_keeps s t
 
 -- ---- triplets that have room
 

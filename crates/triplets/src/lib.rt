@@ -5,12 +5,28 @@
 
 mod lent;
 
-ghost use Rattle.std.specs.Prelude.{◌≡◌, ◌*◌};
+ghost use Rattle.std.specs.Prelude.{◌≡◌, ◌&&◌, ◌*◌, leb};
 ghost use Rattle.definition.specs.Operators.{triplet_room};
 ghost use Rattle.definition.specs.Rows.{kept};
 ghost use Rattle.triplets.specs.Lent.{triplet_lists, Puts};
 
 pub use lent::{Strip, TripletLists};
+
+// Whether lists of these lengths have per_point places for each of count points.
+pub fn holds_triplets(
+    count: usize,
+    per_point: usize,
+    rows: usize,
+    columns: usize,
+    values: usize,
+) -> bool
+    ensures { result ≡ leb (per_point * count) rows && leb (per_point * count) columns && leb (per_point * count) values }
+{
+    match per_point.checked_mul(count) {
+        Some(places) => places <= rows && places <= columns && places <= values,
+        None => false,
+    }
+}
 
 impl<'a> TripletLists<'a> {
     // Whether the lists have n places for each of count points.
@@ -18,8 +34,13 @@ impl<'a> TripletLists<'a> {
     pub fn has_room(&self, n: usize, count: usize) -> bool
         ensures { result ≡ triplet_room (triplet_lists self.now) (n * count) }
     {
-        let places = n.saturating_mul(count);
-        places <= self.rows.len() && places <= self.columns.len() && places <= self.values.len()
+        holds_triplets(
+            count,
+            n,
+            self.rows.len(),
+            self.columns.len(),
+            self.values.len(),
+        )
     }
 }
 
