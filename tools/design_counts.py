@@ -39,6 +39,8 @@ JUDGED = {
     (2, "elements", "nodes_per_element"): "two functions of a number, no twins",
     (2, "listing", "put_counts"): "two lines with words of their own",
     (2, "listing", "put_refusal"): "two lines with words of their own",
+    (2, "job", "put_listing"): "the listing of a job's bytes, and that of an answer with its lists",
+    (2, "listing", "put_numbered_answer"): "the listing of a job's bytes, and that of an answer with its lists",
     (2, "lists", "part_end"): "the two ends of a part",
     (2, "lists", "part_start"): "the two ends of a part",
     (2, "operator_questions", "pairs_match"): "no twin of a list's room",

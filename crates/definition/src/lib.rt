@@ -30,6 +30,7 @@ pub struct FaceReference {
 impl From<FaceReference> for Reference {
     ghost from_gives = { λ f r. r ≡ record { xi = f.xi; eta = f.eta } };
 
+    // Kept: each conversion takes two fields of its own types.
     fn from(f: FaceReference) -> Reference {
         Reference {
             xi: f.xi,
@@ -158,6 +159,7 @@ impl QuestionKind {
 }
 
 // The first question that was answered no, and its place.
+// Kept: the calls' own refusal names one of the 21 questions, and so no number that they never answer. One struct with the question's type as a parameter would stand with it in every signature, and is no plainer.
 #[derive(Clone, Copy, Debug, PartialEq, Eq)]
 pub struct Refusal {
     pub question: QuestionKind,
@@ -175,6 +177,7 @@ pub struct NumberedRefusal {
 impl From<Refusal> for NumberedRefusal {
     ghost from_gives = { λ r n. n ≡ record { question = number_of r.question; place = r.place } };
 
+    // Kept: each conversion takes two fields of its own types.
     fn from(refusal: Refusal) -> NumberedRefusal {
         NumberedRefusal {
             question: refusal.question.number(),
