@@ -4,6 +4,7 @@
 ghost use Rattle.std.specs.Prelude.{◌≡◌, map, ◌≤◌, length};
 ghost use Rattle.std.specs.Float.{binary64};
 ghost use Rattle.std.specs.Float.Ieee.{of_bits};
+ghost use Rattle.arrayvec.specs.ArrayVec.{array_vec_len};
 ghost use Rattle.definition.specs.Questions.{accepted};
 ghost use Rattle.definition.specs.Query.{queried};
 ghost use Rattle.definition.specs.Job.{own_lists, query_listing, job_listing, listing, JobPromise};
@@ -21,16 +22,15 @@ use records::Job;
 // The bytes of the longest listing: a first line of 18, and 256 lines of 120.
 pub const LONGEST_LISTING: usize = 30738;
 
-// The numbers of a list of bit patterns.
-fn floats_of<const N: usize>(bits: &[u64]) -> ArrayVec<f64, N>
-    requires { length bits.now ≤ N }
-    ensures { result.items ≡ map (of_bits binary64) bits.now }
+// Puts the numbers of a list of bit patterns into an empty list, which is filled where it stands.
+fn put_floats<const N: usize>(bits: &[u64], floats: &mut ArrayVec<f64, N>)
+    requires empty { array_vec_len floats.old ≡ 0 }
+    requires room { length bits.now ≤ N }
+    ensures { floats.new.items ≡ map (of_bits binary64) bits.now }
 {
-    let mut floats = ArrayVec::new();
     for pattern in bits {
         floats.push(binary64::float_of(*pattern));
     }
-    floats
 }
 
 // Puts the listing of a query of at most 256 points.
@@ -60,8 +60,10 @@ fn put_query(call: &QueryCall, page: &mut Page)
 fn put_job(job: &Job, page: &mut Page)
     ensures { Puts page.old page.new (job_listing (accepted job.now)) }
 {
-    let nodes_rz: ArrayVec<f64, 1024> = floats_of(job.nodes());
-    let points: ArrayVec<f64, 512> = floats_of(job.points());
+    let mut nodes_rz: ArrayVec<f64, 1024> = ArrayVec::new();
+    let mut points: ArrayVec<f64, 512> = ArrayVec::new();
+    put_floats(job.nodes(), &mut nodes_rz);
+    put_floats(job.points(), &mut points);
     let mesh = QuadMesh::new(job.family(), nodes_rz.as_slice(), job.elements());
     let call = QueryCall::new(mesh, job.iterations(), points.as_slice());
     put_query(&call, page);
@@ -72,8 +74,9 @@ fn put_job(job: &Job, page: &mut Page)
 fn put_listing(bytes: &[u8], page: &mut Page)
     ensures { Puts page.old page.new (listing bytes.now) }
 {
-    match records::read_job(bytes) {
-        Ok(job) => put_job(&job, page),
+    let mut job = Job::new();
+    match job.read(bytes) {
+        Ok(()) => put_job(&job, page),
         Err(refusal) => page.put_refusal(refusal.question.number(), refusal.place),
     }
 }

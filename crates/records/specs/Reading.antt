@@ -1,10 +1,16 @@
--- The room that a record needs in a job, and what is known of a job that was read.
-use Rattle.std.specs.Prelude.{◌≡◌, Bool, true, ◌+◌, ◌*◌, ◌≤◌, ◌<◌, leb, length}
+-- What reading a job comes to, the room that a record needs in a job, and what is known of a job that was read.
+use Rattle.std.specs.Prelude.{◌≡◌, Result, Ok, Err, Bool, true, ◌+◌, ◌*◌, ◌≤◌, ◌<◌, leb, length}
 use Rattle.definition.specs.Elements.{nodes_of}
-use Rattle.definition.specs.Questions.{is_family}
+use Rattle.definition.specs.Questions.{Outcome, accepted, refused, number_of, is_family}
 use Rattle.definition.specs.declared.Mark.{Mark}
 use Rattle.definition.specs.declared.Mark.TheVariants.{Head, Node, Element, Point, Unknown}
+use Rattle.definition.specs.declared.Refusal.{Refusal}
 use Rattle.definition.specs.Job.{Job}
+
+-- what reading comes to, in document 01's words: the job that was read, or the refusal
+abbrev pub read_outcome : Result (Unit {0}) Refusal → Job → Outcome Job
+read_outcome (Ok _) j = accepted j
+read_outcome (Err r) j = refused (number_of r.question) r.place
 
 -- whether a job that holds the limits holds them with a record more
 abbrev pub room_for : Mark → Job → Bool

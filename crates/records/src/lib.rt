@@ -2,11 +2,11 @@
 // Floats stay bits. Every call has an answer for every list of bytes.
 #![tactic(auto)]
 
-ghost use Rattle.std.specs.Prelude.{◌≡◌, true, ◌++◌, ◌+◌, ◌*◌, ◌≤◌, ◌<◌, length, slice_range, IfOk};
+ghost use Rattle.std.specs.Prelude.{◌≡◌, true, ◌++◌, ◌+◌, ◌*◌, ◌≤◌, ◌<◌, length, slice_range, IfOk, OnOk, OnErr};
 ghost use Rattle.definition.specs.Questions.{asked, outcome};
 ghost use Rattle.definition.specs.Job.{mark_at, is_known, is_head, family_read, record_bytes, pair_bits, row_of, taken, within_limits, record_questions, empty_job, read_job};
 ghost use Rattle.arrayvec.specs.ArrayVec.{array_vec_len};
-ghost use Rattle.records.specs.Reading.{room_for, Bounded};
+ghost use Rattle.records.specs.Reading.{read_outcome, room_for, Bounded};
 
 use arrayvec::ArrayVec;
 use asking::ask;
@@ -132,7 +132,8 @@ impl Model for Job {
 }
 
 impl Job {
-    fn new() -> Job
+    // The job of no bytes.
+    pub fn new() -> Job
         ensures { result ≡ empty_job }
     {
         Job {
@@ -142,6 +143,31 @@ impl Job {
             elements: ArrayVec::new(),
             points: ArrayVec::new(),
         }
+    }
+
+    // Becomes the job that the bytes are, whatever it was, or the first question that was answered no, with the record's index: then it is the job of no bytes.
+    // A job is large, so it is read where it stands.
+    pub fn read(&mut self, bytes: &[u8]) -> Result<(), Refusal>
+        ensures outcome { read_outcome result self.new ≡ read_job bytes.now }
+        ensures bounded { OnOk result (Bounded self.new) }
+        ensures refused { OnErr result (self.new ≡ empty_job) }
+    {
+        self.clear();
+        let answer = self.take_all(bytes);
+        if answer.is_err() {
+            self.clear();
+        }
+        answer
+    }
+
+    fn clear(&mut self)
+        ensures { self.new ≡ empty_job }
+    {
+        self.family = 0;
+        self.iterations = 0;
+        self.nodes.clear();
+        self.elements.clear();
+        self.points.clear();
     }
 
     pub fn family(&self) -> usize
@@ -238,6 +264,26 @@ impl Job {
             Mark::Unknown => {}
         }
     }
+
+    // Takes the records one after the other, up to the first that is refused.
+    fn take_all(&mut self, bytes: &[u8]) -> Result<(), Refusal>
+        requires { self.old ≡ empty_job }
+        ensures outcome { read_outcome result self.new ≡ read_job bytes.now }
+        ensures bounded { OnOk result (Bounded self.new) }
+    {
+        let mut at = 0;
+        let mut index = 0;
+        // Kept: the step is a record's own length, which no range gives.
+        while at < bytes.len() {
+            let next = Record::new(bytes, at);
+            self.record_questions(&next, index)?;
+            at += next.size(self.family());
+            self.take(&next);
+            index += 1;
+        }
+        ask(0 < index, QuestionKind::HeadFirst, 0)?;
+        Ok(())
+    }
 }
 
 // The job that the bytes are, or the first question that was answered no, with the record's index.
@@ -246,16 +292,6 @@ pub fn read_job(bytes: &[u8]) -> Result<Job, Refusal>
     ensures bounded { IfOk result Bounded }
 {
     let mut job = Job::new();
-    let mut at = 0;
-    let mut index = 0;
-    // Kept: the step is a record's own length, which no range gives.
-    while at < bytes.len() {
-        let next = Record::new(bytes, at);
-        job.record_questions(&next, index)?;
-        at += next.size(job.family());
-        job.take(&next);
-        index += 1;
-    }
-    ask(0 < index, QuestionKind::HeadFirst, 0)?;
+    job.read(bytes)?;
     Ok(job)
 }

@@ -1,10 +1,10 @@
--- `read_job` meets its contract: each record that passes is taken, and the first that does not is the answer. Assumes nothing.
+-- `take_all` meets its contract: each record that passes is taken, and the first that does not is the answer. Assumes nothing.
 use Rattle.std.proofs.lemmas.Result.{err_from_is_err_and}
 use Rattle.records.proofs.Reached.{ready, reached_start, reached_next, reached_refused, reached_room, reached_end, reached_none, reached_bounds}
-use Rattle.records.proofs.read_job.Goals as goal
+use Rattle.records.proofs.Job.take_all.Goals as goal
 
 pub loop-at-init : goal.loop-at-init
-loop-at-init c = rw c.new-job.ensures (reached_start c.args.bytes.now)
+loop-at-init c = rw c.requires (reached_start c.args.bytes.now)
 
 pub returns-in_err-record_questions-clause-outcome : goal.returns-in_err-record_questions-clause-outcome
 returns-in_err-record_questions-clause-outcome c =
