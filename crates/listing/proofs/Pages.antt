@@ -1,16 +1,18 @@
--- Texts put one after the other are one text, and a text that has room from place 0 on is written over the output: by the laws of a fold. Assumes nothing.
+-- Texts put one after the other are one text, the output keeps its length, and a text that has room from place 0 on is written over the output: by the laws of a fold, and the length by induction on the text. Assumes nothing.
 use mathlib.Core.Path.{◌≡◌, refl, ◌∙◌}
+use mathlib.Core.Bool.{true, false, cond}
 use mathlib.Core.List.{List, [], ◌∷◌, ◌++◌}
 use Prim.Native.Nat.{ℕ, ◌+◌, ◌≤◌, ◌<◌}
 use native.Mathlib.Numerals.{add-one}
 use native.Mathlib.Omega.{arith}
-use lib.ListN.{length, get_or, take, length-append}
+use lib.Dec.{ltb}
+use lib.ListN.{length, set, get_or, take, length-append, length-set}
 use lib.Seq.{take-suc}
 use borrow.Author.Tests.{lt-ltb}
 use Rattle.std.proofs.lemmas.List.Sums.{fold-append}
 use Rattle.definition.specs.Lists.{each, over}
 use Rattle.definition.proofs.Lists.{each_more, fold_on, over_length, over_next}
-use Rattle.listing.specs.Page.{page, stored, typed, held, Puts}
+use Rattle.listing.specs.Page.{Page, page, stored, typed, held, Puts}
 use Rattle.listing.specs.declared.Page.{Page as LentPage}
 
 -- no text, and one text after another
@@ -29,6 +31,20 @@ puts_next t i l first second = rw (add-one, take-suc {A = ℕ} t i 0 l) (puts_on
 -- one part more of a text of parts
 pub puts_each : {p q r : LentPage} (g : ℕ → List ℕ) (n : ℕ) → Puts p q (each g n) → Puts q r (g n) → Puts p r (each g (n + 1))
 puts_each g n first second = rw each_more (puts_on first second)
+
+-- ---- the output keeps its length
+
+stored_length : (p : Page) (b : ℕ) → length (stored p b).bytes ≡ length p.bytes
+unfolding stored
+stored_length p b = elim (ltb p.at (length p.bytes)) as (λ s. length (cond s (page (set p.bytes p.at b) (p.at + 1)) p).bytes ≡ length p.bytes) [ true ↦ length-set p.bytes p.at b | false ↦ refl ]
+
+typed_length : (p : Page) (t : List ℕ) → length (typed p t).bytes ≡ length p.bytes
+unfolding typed
+typed_length p [] = refl
+typed_length p (b ∷ t) = typed_length (stored p b) t ∙ stored_length p b
+
+pub typed_keeps : (p : Page) (t : List ℕ) {q : Page} → q ≡ typed p t → length q.bytes ≡ length p.bytes
+typed_keeps p t e = rw e (typed_length p t)
 
 -- ---- a text that has room
 

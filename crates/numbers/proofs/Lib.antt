@@ -1,2 +1,3 @@
--- A theorem of the numbers.
+-- A theorem of the numbers, and when an exported call keeps its promise.
 pub mod Told
+pub mod Kept

@@ -1,4 +1,4 @@
--- Lists filled point by point come to hold the definition's answers where they have room, since each store has its place. Assumes nothing.
+-- Lists filled point by point come to hold the definition's answers where they have room, since each store has its place. No store changes a length. Assumes nothing.
 use mathlib.Core.Path.{◌≡◌, refl}
 use mathlib.Core.Bool.{Bool, true, false, cond}
 use mathlib.Core.List.{List, [], ◌∷◌}
@@ -7,7 +7,8 @@ use native.Mathlib.Numerals.{add-one}
 use native.Mathlib.Omega.{arith}
 use Rattle.std.proofs.lemmas.Bool.Decides.{nat_tests}
 use borrow.Author.Tests.{lt-ltb}
-use lib.ListN.{length, set}
+use lib.Dec.{ltb}
+use lib.ListN.{length, set, length-set}
 use lib.Ieee.{Float, eq}
 use mir.Val.{bool_byte}
 use Rattle.definition.specs.Binary64.{plus0}
@@ -100,6 +101,33 @@ filled_answers q n l h =
       r.face_points,
       r.face_distances,
     ))
+
+-- ---- each list keeps its length, with room or without
+
+-- the lengths of the lists, in their order
+abbrev pub lengths : QueryLists → List ℕ
+lengths l =
+    length l.node_indices
+    ∷ length l.node_points
+    ∷ length l.node_distances
+    ∷ length l.element_indices
+    ∷ length l.element_references
+    ∷ length l.element_points
+    ∷ length l.element_distances
+    ∷ length l.face_element_indices
+    ∷ length l.face_local_faces
+    ∷ length l.face_coordinates
+    ∷ length l.face_points
+    ∷ length l.face_distances
+    ∷ []
+
+pair_length : (p : ℕ) (x y : Float) (l : List Float) → length (pair_stored p x y l) ≡ length l
+pair_length p x y l = elim (ltb p (length l / 2)) as (λ b. length (cond b (set (set l (2 * p) x) (2 * p + 1) y) l) ≡ length l) [ true ↦ simp length-set | false ↦ refl ]
+
+pub filled_lengths : (q : QueryCall) (n : ℕ) (l : QueryLists) → lengths (filled q n l) ≡ lengths l
+unfolding filled
+filled_lengths q zero l = refl
+filled_lengths q (suc n) l = simp (pair_length, length-set) (filled_lengths q n l)
 
 -- ---- one point more
 

@@ -2,7 +2,7 @@
 use mathlib.Core.Path.{◌≡◌}
 use mathlib.Core.List.{[], ◌∷◌}
 use seplogic.Ra.Ura.{Ura}
-use base.Logic.{ent}
+use base.Logic.{ent, via, snd∗}
 use base.Fml.{Fml, fsep}
 use types.Logic.{Logic, sem}
 use types.Kit.{‵, given, ◌$◌, ◌∵◌, !, qed, move, drop, use1, learn, fsplit, fjoin, done}
@@ -36,3 +36,7 @@ module _ {M : Type 1} {𝓤 : Ura M} (𝓛 : Logic 𝓤) (α : NamedLft) (d : Qu
       fsplit ! $ move ! (1 ∷ []) $ fsplit ! $ move ! (1 ∷ []) $ drop ! $
       -- [what the elements own; what the nodes own; R]
       move ! (0 ∷ 2 ∷ []) $ fjoin ! $ move ! (1 ∷ 0 ∷ []) $ fjoin ! $ done !)
+
+  -- what the nodes own is let go
+  pub opens_elements : (R : Fml) → ent 𝓤 (sem 𝓛 (fsep Whole R)) (sem 𝓛 (fsep Elements R))
+  opens_elements R = via 𝓤 (sem 𝓛 (fsep Nodes (fsep Elements R))) (opens R) (snd∗ 𝓤 (sem 𝓛 Nodes) (sem 𝓛 (fsep Elements R)))
