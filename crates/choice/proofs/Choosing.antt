@@ -9,7 +9,6 @@ use Rattle.std.proofs.Common.{Option, Some, None, is_some, IfSome, MatchOption}
 use Rattle.std.specs.Bool.{then_some}
 use Rattle.definition.specs.Root.{root_of}
 use Rattle.definition.specs.Choice.{pick}
-use Rattle.definition.specs.Search.{nearer}
 use Rattle.definition.specs.declared.Best.{Best}
 use Rattle.definition.proofs.Choice.{pick_more}
 use Rattle.definition.proofs.Root.{root_not_smaller}
@@ -20,14 +19,16 @@ use Rattle.choice.specs.declared.near.Near.{Near}
 pick_next : (d : ℕ → Float) (n : ℕ) → pick d (n + 1) ≡ cond (lt (d n) (d (pick d n))) n (pick d n)
 pick_next d n = ap (pick d) (add-one n) ∙ pick_more d n
 
--- places compare their squares
-pub place_more : {A : Type 0} (place : ℕ → Best A) (n : ℕ) {best next : Best A} → best ≡ place (pick (λ i. (place i).square) n) → next ≡ place n → nearer best next ≡ place (pick (λ i. (place i).square) (n + 1))
-unfolding nearer
-place_more place n p q = rw (p, q, pick_next (λ i. (place i).square) n) (by (lt (place n).square (place (pick (λ i. (place i).square) n)).square))
-  where
-    by : (b : Bool) → cond b (place n) (place (pick (λ i. (place i).square) n)) ≡ place (cond b n (pick (λ i. (place i).square) n))
-    by true = refl
-    by false = refl
+-- nodes compare their squares: the number of the nearest so far, with its square beside it
+pub goes_on : (d : ℕ → Float) (n : ℕ) {best : ℕ} {least new : Float} → best ≡ pick d n → least ≡ d best → new ≡ d n → lt new least ≡ true → (n ≡ pick d (n + 1)) × (new ≡ d n)
+goes_on d n p q r h =
+    let t : lt (d n) (d (pick d n)) ≡ true = cc (h, p, q, r) in
+    (rw (pick_next d n, t) refl, r)
+
+pub stays : (d : ℕ → Float) (n : ℕ) {best : ℕ} {least new : Float} → best ≡ pick d n → least ≡ d best → new ≡ d n → lt new least ≡ false → (best ≡ pick d (n + 1)) × (least ≡ d best)
+stays d n p q r h =
+    let t : lt (d n) (d (pick d n)) ≡ false = cc (h, p, q, r) in
+    (rw (p, pick_next d n, t) refl, q)
 
 -- elements and faces compare their distances
 module _ {A : Type 0} (found_at : ℕ → Best A) (n : ℕ) (near : Near A) {found : Best A} (nearest : IsNearest found_at n near) (here : found ≡ found_at n) where

@@ -9,30 +9,35 @@ ghost use Rattle.choice.specs.Nodes.{node_place};
 use definition::{Best, NodeProjection, Point};
 use mesh::QuadMesh;
 
-// Node `node_index` as a place of a search.
-// Kept: a node is no search, so one function for this and `searching::place` would need a trait around two lines, and is no plainer; nor is a struct of a mesh and a target, which are two values of the definition.
-fn node_place(mesh: &QuadMesh, node_index: usize, target: Point) -> Best<usize>
-    ensures { result ≡ node_place mesh.now target node_index }
+// The squared distance of node `node_index`.
+// Kept: a mesh and a target are two values of the definition, and a struct made for these functions alone is no plainer.
+fn node_square(mesh: &QuadMesh, node_index: usize, target: Point) -> f64
+    ensures { result ≡ node_square mesh.now 0 target node_index }
 {
     let point = mesh.node(node_index);
-    let square = binary64::squared_distance(point.x, point.y, target.x, target.y);
-    Best {
-        at: node_index,
-        point,
-        square,
-    }
+    binary64::squared_distance(point.x, point.y, target.x, target.y)
 }
 
-// The first node of the least squared distance, 0 where there is none.
+// The first node of the least squared distance, 0 where there is none. The walk keeps a number and a square: with the point beside them it takes half as long again.
 // Kept: a mesh and a target are two values of the definition, and a struct made for these functions alone is no plainer.
+#[tactic(auto, using(crate::proofs::Choosing::goes_on, crate::proofs::Choosing::stays))]
 fn nearest_node(mesh: &QuadMesh, target: Point) -> Best<usize>
     ensures { result ≡ node_place mesh.now target (pick (node_square mesh.now 0 target) (node_count mesh.now)) }
 {
-    let mut best = node_place(mesh, 0, target);
+    let mut at = 0;
+    let mut square = node_square(mesh, 0, target);
     for node_index in 0..mesh.num_nodes() {
-        best = search::nearer(best, node_place(mesh, node_index, target));
+        let next = node_square(mesh, node_index, target);
+        if next < square {
+            at = node_index;
+            square = next;
+        }
     }
-    best
+    Best {
+        at,
+        point: mesh.node(at),
+        square,
+    }
 }
 
 // The nearest node, by squared distance. Where there is none it is node 0, at NaN.
