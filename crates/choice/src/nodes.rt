@@ -19,7 +19,9 @@ fn node_square(mesh: &QuadMesh, node_index: usize, target: Point) -> f64
 }
 
 // The first node of the least squared distance, 0 where there is none. The walk keeps a number and a square: with the point beside them it takes half as long again.
+// Not inlined: in a larger function the target has no registers.
 // Kept: a mesh and a target are two values of the definition, and a struct made for these functions alone is no plainer.
+#[inline(never)]
 #[tactic(auto, using(crate::proofs::Choosing::goes_on, crate::proofs::Choosing::stays))]
 fn nearest_node(mesh: &QuadMesh, target: Point) -> Best<usize>
     ensures { result ≡ node_place mesh.now target (pick (node_square mesh.now 0 target) (node_count mesh.now)) }
