@@ -23,7 +23,7 @@
  * THREADS. There is no state, no heap and no lock, and nothing but the answer and the lent lists is written. Calls may run at the same time in several threads
  * if no list that one of them writes is used by another; lists that are only read may be shared.
  * The stack: less than 16 KiB, and less than 128 KiB for sobrizenta_answer_job. `make -C bindings/c stack` measures it, by painting a stack and looking
- * for the deepest byte that a call has changed: 3,584 bytes at most in a query or an operator, 114,664 in a job. */
+ * for the deepest byte that a call has changed: 3,568 bytes at most in a query or an operator, 67,656 in a job. */
 #ifndef SOBRIZENTA_H
 #define SOBRIZENTA_H
 
