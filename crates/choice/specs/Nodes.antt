@@ -1,4 +1,4 @@
--- Nodes as places of a search: the nearest is found as a search finds it.
+-- A node with its point and its squared distance from the target.
 use Rattle.std.specs.Prelude.{ℕ}
 use Rattle.definition.specs.Choice.{node_square}
 use Rattle.definition.specs.Mesh.{Mesh, pair_at}

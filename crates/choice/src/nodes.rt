@@ -18,8 +18,8 @@ fn node_square(mesh: &QuadMesh, node_index: usize, target: Point) -> f64
     binary64::squared_distance(point.x, point.y, target.x, target.y)
 }
 
-// The first node of the least squared distance, 0 where there is none. The walk keeps a number and a square: with the point beside them it takes half as long again.
-// Not inlined: in a larger function the target has no registers.
+// The first node of the least squared distance, 0 where there is none. The walk keeps a number and a square alone: with the point beside them it takes half as long again.
+// Not inlined: in a larger function no registers are left for the target.
 // Kept: a mesh and a target are two values of the definition, and a struct made for these functions alone is no plainer.
 #[inline(never)]
 #[tactic(auto, using(crate::proofs::Choosing::goes_on, crate::proofs::Choosing::stays))]
